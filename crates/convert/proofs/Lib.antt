@@ -1,0 +1,4 @@
+pub mod Facts
+pub mod Runs
+pub mod Plans
+pub mod Records

@@ -1,0 +1,62 @@
+-- Records as word lists: a plan's record keeps all but 12, and words that keep 7 to 13 are the record of the converter's plan for them.
+use Prim.Native.Nat.{ℕ, zero, suc, _≤_, _<_}
+use mathlib.Core.List.{List}
+use mathlib.Core.Path.{_≡_, refl, sym, ap, subst, subst₂, _∙_}
+use native.Mathlib.Omega.{arith}
+use lib.ListN.{length}
+use Rattle.road.specs.Corridor.{NodeState, Road, Plan, Trace}
+use Rattle.road.specs.Run.{junction, run, cost}
+use Rattle.road.specs.Limits.{Limits, Bounded}
+use Rattle.road.proofs.Same.{same-traces-back, cost-same}
+use Rattle.settings.specs.Share.{IsSetting}
+use Rattle.lists.specs.Words.{planOf, planWords, traceOf, recordWords, recordLength}
+use Rattle.lists.proofs.Words.{CostWords, plan-read, record-cost, record-read, record-same, record-written}
+use Rattle.convert.specs.Convert.{planFor}
+use Rattle.convert.proofs.Facts.{Moves, QueuesHeld, Keeps}
+use Rattle.convert.proofs.Runs.{run-moves, moves-same}
+use Rattle.convert.proofs.Plans.{plan-named, named-bounded, named-run}
+
+-- a record's own cost is right
+pub record-costs : (road : Road) (trace : Trace) → CostWords road (recordWords road trace) (cost road (traceOf road (recordWords road trace)))
+record-costs road trace =
+    subst (λ (total : ℕ). CostWords road (recordWords road trace) total) (sym (cost-same road _ _ (record-read road trace))) (record-cost road trace)
+
+-- the converter's plan, as it is read from its list
+abbrev pub returned : Road → List ℕ → Plan
+returned road words = planOf road (planWords road (planFor road (traceOf road words)))
+
+module _ (road : Road) (limits : Limits road) where
+  -- ---- the record of a plan within bounds keeps 7 to 11
+
+  pub record-moves : (plan : Plan) → Bounded road plan → Moves road (traceOf road (recordWords road (run road plan)))
+  record-moves plan bounded =
+      moves-same road (run road plan) (traceOf road (recordWords road (run road plan)))
+      (same-traces-back road _ _ (record-read road (run road plan)))
+      (run-moves road limits plan bounded)
+
+  -- where 12 is kept too, every queue is within its limit, the start's included
+  pub queues-within : (trace : Trace) → Moves road trace → QueuesHeld road trace
+      → (k i : ℕ) → k ≤ road .steps → i ≤ road .links → trace .state k i .queue ≤ road .node i .ramp .queueLimit
+  queues-within trace moves held zero i hk hi =
+      omega (arith, ap (λ (s : NodeState). s .queue) (moves .fixed zero i hk hi .first refl), limits .start i hi .queue)
+  queues-within trace moves held (suc k) i hk hi = held k i hk hi
+
+  -- ---- the converter's plan for words that keep 7 to 13
+
+  module _ (words : List ℕ) (keeps : Keeps road words) where
+    pub returned-named : (k i : ℕ) → k < road .steps → i ≤ road .links
+        → IsSetting (junction road k (traceOf road words .state k) i) (traceOf road words .flows k i) (returned road words .rate k i) (returned road words .limit k i)
+    returned-named k i hk hi =
+        let same = plan-read road (planFor road (traceOf road words)) k i hk hi in
+        subst₂ (λ (rate limit : ℕ). IsSetting (junction road k (traceOf road words .state k) i) (traceOf road words .flows k i) rate limit)
+        (sym (same .rate)) (sym (same .limit))
+        (plan-named road limits (traceOf road words) (keeps .moves) k i hk hi)
+
+    pub returned-bounded : Bounded road (returned road words)
+    returned-bounded = named-bounded road limits (traceOf road words) (keeps .moves) (returned road words) returned-named
+
+    -- it has the record, in every word
+    pub returned-record : length words ≡ recordLength (road .links) (road .steps) → recordWords road (run road (returned road words)) ≡ words
+    returned-record fits =
+        record-same road (run road (returned road words)) (traceOf road words) (named-run road limits (traceOf road words) (keeps .moves) (returned road words) returned-named)
+        ∙ sym (record-written road words fits (keeps .costs))

@@ -1,0 +1,68 @@
+-- Checker, converter and normal form: their answers, and the plan that they write.
+use Prim.Native.Nat.{ℕ}
+use mathlib.Core.Bool.{_&&_}
+use mathlib.Core.List.{List}
+use lib.ListN.{length}
+use lib.Dec.{eqb}
+use Rattle.tables.specs.declared.Answer.{Answer}
+use Rattle.tables.specs.Answer.{orElse}
+use Rattle.road.specs.Corridor.{Road, Plan, Trace}
+use Rattle.road.specs.Run.{junction}
+use Rattle.settings.specs.declared.Setting.{Setting}
+use Rattle.settings.specs.Setting.{settingFor, rateIn, limitIn}
+use Rattle.lists.specs.Words.{linksOf, stepsOf, roadOf, planOf, planWords, traceOf, planLength, recordLength}
+use Rattle.lists.specs.Refusals.{sizes, sized, ranges, bounds}
+use Rattle.simulate.specs.Simulate.{simulated}
+use Rattle.convert.specs.Refusals.{judged}
+
+-- the setting of node i at step k that gives the record's flows from the record's state
+unfoldable pub settingAt : Road → Trace → ℕ → ℕ → Setting
+settingAt road trace k i = settingFor (junction road k (trace .state k) i) (trace .flows k i)
+
+-- the plan that sets every node at every step so
+unfoldable pub planFor : Road → Trace → Plan
+planFor road trace =
+    record {
+      rate = λ k i. rateIn (settingAt road trace k i);
+      limit = λ k i. limitIn (road .node i .link .fullSpeed) (settingAt road trace k i);
+    }
+
+-- the converter's plan for a record
+unfoldable pub converted : List ℕ → List ℕ → List ℕ → List ℕ
+converted corridor demands words =
+    planWords (roadOf corridor demands) (planFor (roadOf corridor demands) (traceOf (roadOf corridor demands) words))
+
+-- "Normal form: simulate into the caller's work record, then convert."
+unfoldable pub normalForm : List ℕ → List ℕ → List ℕ → List ℕ
+normalForm corridor demands plan = converted corridor demands (simulated corridor demands plan)
+
+-- ---- answers: 1, then 2 to 5, then 6 of a plan, then 7 to 13 of a record
+
+unfoldable pub checkAnswer : List ℕ → List ℕ → List ℕ → Answer
+checkAnswer corridor demands words =
+    orElse (sized (sizes corridor demands && eqb (length words) (recordLength (linksOf corridor) (stepsOf demands))))
+    (orElse (ranges (roadOf corridor demands)) (judged (roadOf corridor demands) words))
+
+-- `room` is the length of the lent plan
+unfoldable pub convertAnswer : List ℕ → List ℕ → List ℕ → ℕ → Answer
+convertAnswer corridor demands words room =
+    orElse
+    (sized
+    (sizes corridor demands
+    && (eqb (length words) (recordLength (linksOf corridor) (stepsOf demands)) && eqb room (planLength (linksOf corridor) (stepsOf demands)))))
+    (orElse (ranges (roadOf corridor demands)) (judged (roadOf corridor demands) words))
+
+-- 1 to 6: what refuses a normal form before anything is written; `work` and `room` are the lengths of the lent work record and of the lent plan
+unfoldable pub normalRefusal : List ℕ → List ℕ → List ℕ → ℕ → ℕ → Answer
+normalRefusal corridor demands plan work room =
+    orElse
+    (sized
+    (sizes corridor demands
+    && (eqb (length plan) (planLength (linksOf corridor) (stepsOf demands))
+    && (eqb work (recordLength (linksOf corridor) (stepsOf demands)) && eqb room (planLength (linksOf corridor) (stepsOf demands))))))
+    (orElse (ranges (roadOf corridor demands)) (bounds (roadOf corridor demands) (planOf (roadOf corridor demands) plan)))
+
+unfoldable pub normalAnswer : List ℕ → List ℕ → List ℕ → ℕ → ℕ → Answer
+normalAnswer corridor demands plan work room =
+    orElse (normalRefusal corridor demands plan work room)
+    (judged (roadOf corridor demands) (simulated corridor demands plan))

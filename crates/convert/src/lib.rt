@@ -1,0 +1,1 @@
+// Checker, converter and normal form.

@@ -1,0 +1,12 @@
+-- By the words that are read.
+use borrow.Author.Needs.{needs}
+use Rattle.lists.specs.Words.{nodeAt}
+use Rattle.lists.proofs.inner.words.start_at.Statement.{statement}
+use Rattle.lists.proofs.inner.words.start_at.Tie as tie
+
+returns : tie.Need-returns
+unfolding nodeAt
+returns c = simp (c .before .node-word .ensures, c .node-word2 .ensures)
+
+pub start-at-spec : {M : Type 1} → statement M
+start-at-spec = tie.close (tie.spec (λ c κs. search needs) (λ c κs. search needs) returns)

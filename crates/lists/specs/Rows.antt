@@ -1,0 +1,24 @@
+-- One step's rows: what a row of the demands and a row of a record say, so that a step can be done on its rows alone.
+use Prim.Native.Nat.{ℕ, _+_, _*_}
+use mathlib.Core.List.{List}
+use lib.ListN.{getD}
+use Rattle.road.specs.Corridor.{NodeState, Road, Flows}
+use Rattle.lists.specs.Words.{linksOf, nodeAt}
+
+-- the state and the flows of node i in a record's row
+unfoldable pub stateIn : List ℕ → ℕ → NodeState
+stateIn row i = record { vehicles = getD row (i * 4 + 0) 0; queue = getD row (i * 4 + 1) 0 }
+
+unfoldable pub flowsIn : List ℕ → ℕ → Flows
+flowsIn row i = record { main = getD row (i * 4 + 2) 0; ramp = getD row (i * 4 + 3) 0 }
+
+-- a corridor whose demands are those of one row at each step
+unfoldable pub stepRoad : List ℕ → List ℕ → Road
+stepRoad corridor row =
+    record {
+      links = linksOf corridor;
+      steps = 1;
+      node = nodeAt corridor;
+      arrivals = λ k i. getD row (i * 2 + 0) 0;
+      split = λ k i. getD row (i * 2 + 1) 0;
+    }

@@ -1,0 +1,113 @@
+-- The word lists of document 01: where each word stands, how long each list is, and what corridor, demands, plan and record the words say.
+use Prim.Native.Nat.{ℕ, zero, suc, _+_, _*_, _/_, _%_}
+use mathlib.Core.List.{List, [], _∷_, _++_}
+use lib.ListN.{getD}
+use Rattle.tables.specs.Grid.{grid, place}
+use Rattle.road.specs.Corridor.{Node, NodeState, Flows, Road, Plan, Trace, nodes}
+use Rattle.road.specs.Run.{cost}
+
+-- ---- Corridor: N, then for nodes 0..N: identifier, F, V, W, J, C, L, starting n, starting l
+
+unfoldable pub linksOf : List ℕ → ℕ
+linksOf corridor = getD corridor 0 0
+
+-- word q of node i
+abbrev pub corridorWord : List ℕ → ℕ → ℕ → ℕ
+corridorWord corridor i q = getD corridor (1 + (i * 9 + q)) 0
+
+unfoldable pub nodeAt : List ℕ → ℕ → Node
+nodeAt corridor i =
+    record {
+      identifier = corridorWord corridor i 0;
+      link =
+          record {
+            capacity = corridorWord corridor i 1;
+            fullSpeed = corridorWord corridor i 2;
+            waveSpeed = corridorWord corridor i 3;
+            jam = corridorWord corridor i 4;
+          };
+      ramp = record { capacity = corridorWord corridor i 5; queueLimit = corridorWord corridor i 6 };
+      start = record { vehicles = corridorWord corridor i 7; queue = corridorWord corridor i 8 };
+    }
+
+-- ---- Demands: K, then by step and node: Q, b
+
+unfoldable pub stepsOf : List ℕ → ℕ
+stepsOf demands = getD demands 0 0
+
+-- word q of node i at step k
+abbrev pub demandsWord : List ℕ → ℕ → ℕ → ℕ → ℕ → ℕ
+demandsWord demands links k i q = getD demands (1 + place 2 (suc links) k i q) 0
+
+-- the corridor and the demands together
+unfoldable pub roadOf : List ℕ → List ℕ → Road
+roadOf corridor demands =
+    record {
+      links = linksOf corridor;
+      steps = stepsOf demands;
+      node = nodeAt corridor;
+      arrivals = λ k i. demandsWord demands (linksOf corridor) k i 0;
+      split = λ k i. demandsWord demands (linksOf corridor) k i 1;
+    }
+
+-- ---- Plan: by step and node: rate, limit
+
+unfoldable pub planOf : Road → List ℕ → Plan
+planOf road words =
+    record {
+      rate = λ k i. getD words (place 2 (nodes road) k i 0) 0;
+      limit = λ k i. getD words (place 2 (nodes road) k i 1) 0;
+    }
+
+unfoldable pub planWord : Plan → ℕ → ℕ → ℕ → ℕ
+planWord plan k i zero = plan .rate k i
+planWord plan k i (suc q) = plan .limit k i
+
+unfoldable pub planWords : Road → Plan → List ℕ
+planWords road plan = grid 2 (nodes road) (road .steps) (planWord plan)
+
+-- ---- Record: by state 0..K and node: n, l, f, r; then the cost as low and high 32 bits
+
+unfoldable pub traceOf : Road → List ℕ → Trace
+traceOf road words =
+    record {
+      state = λ k i. record { vehicles = getD words (place 4 (nodes road) k i 0) 0; queue = getD words (place 4 (nodes road) k i 1) 0 };
+      flows = λ k i. record { main = getD words (place 4 (nodes road) k i 2) 0; ramp = getD words (place 4 (nodes road) k i 3) 0 };
+    }
+
+-- the four words of a node
+unfoldable pub nodeWord : NodeState → Flows → ℕ → ℕ
+nodeWord state flows zero = state .vehicles
+nodeWord state flows (suc zero) = state .queue
+nodeWord state flows (suc (suc zero)) = flows .main
+nodeWord state flows (suc (suc (suc q))) = flows .ramp
+
+abbrev pub traceWord : Trace → ℕ → ℕ → ℕ → ℕ
+traceWord trace k i = nodeWord (trace .state k i) (trace .flows k i)
+
+unfoldable pub traceWords : Road → Trace → List ℕ
+traceWords road trace = grid 4 (nodes road) (suc (road .steps)) (traceWord trace)
+
+abbrev pub lowHigh : ℕ → List ℕ
+lowHigh n = n % 4294967296 ∷ n / 4294967296 ∷ []
+
+unfoldable pub recordWords : Road → Trace → List ℕ
+recordWords road trace = traceWords road trace ++ lowHigh (cost road trace)
+
+-- ---- lengths
+
+abbrev pub corridorLength : ℕ → ℕ
+corridorLength links = 1 + suc links * 9
+
+abbrev pub demandsLength : ℕ → ℕ → ℕ
+demandsLength links steps = 1 + steps * (suc links * 2)
+
+abbrev pub planLength : ℕ → ℕ → ℕ
+planLength links steps = steps * (suc links * 2)
+
+-- the words of states 0..K
+abbrev pub traceLength : ℕ → ℕ → ℕ
+traceLength links steps = suc steps * (suc links * 4)
+
+abbrev pub recordLength : ℕ → ℕ → ℕ
+recordLength links steps = traceLength links steps + 2

@@ -1,0 +1,197 @@
+// Reads the word lists: what some words say, in the types of a step.
+ghost use mathlib.Core.Path.{_≡_};
+ghost use mathlib.Core.List.{List};
+ghost use Prim.Native.Nat.{ℕ, _+_, _*_, _≤_, _<_};
+ghost use lib.ListN.{length, getD};
+ghost use Rattle.road.specs.Run.{supply, junction};
+ghost use Rattle.road.specs.Values.{linkOf, rampOf, stateOf, junctionOf, flowsOf};
+ghost use Rattle.lists.specs.Words.{linksOf, stepsOf, nodeAt, corridorWord};
+ghost use Rattle.lists.specs.Rows.{stateIn, flowsIn, stepRoad};
+ghost use Rattle.lists.specs.Fits.{CorridorFits, RowFits, JamKept};
+use road::Flows;
+use road::Junction;
+use road::Link;
+use road::NodeState;
+use road::Parts;
+use road::Ramp;
+use road::Speed;
+use road::Units;
+
+// The word that opens a list, 0 where the list is empty.
+fn opening(list: &[u32]) -> usize
+    ensures { λ r. ⌜ r ≡ getD (now (list .entry)) 0 0 ⌝ }
+{
+    if list.len() == 0 {
+        return 0;
+    }
+    list[0] as usize
+}
+
+// N, as the corridor's list gives it.
+pub fn links_of(corridor: &[u32]) -> usize
+    ensures { λ r. ⌜ r ≡ linksOf (now (corridor .entry)) ⌝ }
+{
+    opening(corridor)
+}
+
+// K, as the demands' list gives it.
+pub fn steps_of(demands: &[u32]) -> usize
+    ensures { λ r. ⌜ r ≡ stepsOf (now (demands .entry)) ⌝ }
+{
+    opening(demands)
+}
+
+// Word q of node i in the corridor's list.
+fn node_word(corridor: &[u32], i: usize, q: usize) -> u32
+    requires { ⌜ 1 + (i * 9 + 9) ≤ length (now corridor) ⌝ }
+    requires { ⌜ q < 9 ⌝ }
+    ensures { λ r. ⌜ r ≡ corridorWord (now (corridor .entry)) i q ⌝ }
+{
+    corridor[1 + (i * 9 + q)]
+}
+
+// Word q of node i in a row that has `width` words for each node.
+fn row_word(row: &[u32], width: usize, i: usize, q: usize) -> u32
+    requires { ⌜ i * width + width ≤ length (now row) ⌝ }
+    requires { ⌜ q < width ⌝ }
+    ensures { λ r. ⌜ r ≡ getD (now (row .entry)) (i * width + q) 0 ⌝ }
+{
+    row[i * width + q]
+}
+
+// The identifier of node i.
+pub fn identifier_at(corridor: &[u32], i: usize) -> u32
+    requires { ⌜ 1 + (i * 9 + 9) ≤ length (now corridor) ⌝ }
+    ensures { λ r. ⌜ r ≡ nodeAt (now (corridor .entry)) i .identifier ⌝ }
+{
+    node_word(corridor, i, 0)
+}
+
+// Link i.
+pub fn link_at(corridor: &[u32], i: usize) -> Link
+    requires { ⌜ 1 + (i * 9 + 9) ≤ length (now corridor) ⌝ }
+    ensures { λ r. ⌜ linkOf r ≡ nodeAt (now (corridor .entry)) i .link ⌝ }
+{
+    Link {
+        capacity: Units(node_word(corridor, i, 1)),
+        full_speed: Speed(node_word(corridor, i, 2)),
+        wave_speed: Speed(node_word(corridor, i, 3)),
+        jam: Units(node_word(corridor, i, 4)),
+    }
+}
+
+// Ramp i.
+pub fn ramp_at(corridor: &[u32], i: usize) -> Ramp
+    requires { ⌜ 1 + (i * 9 + 9) ≤ length (now corridor) ⌝ }
+    ensures { λ r. ⌜ rampOf r ≡ nodeAt (now (corridor .entry)) i .ramp ⌝ }
+{
+    Ramp {
+        capacity: Units(node_word(corridor, i, 5)),
+        queue_limit: Units(node_word(corridor, i, 6)),
+    }
+}
+
+// The state that node i starts in.
+pub fn start_at(corridor: &[u32], i: usize) -> NodeState
+    requires { ⌜ 1 + (i * 9 + 9) ≤ length (now corridor) ⌝ }
+    ensures { λ r. ⌜ stateOf r ≡ nodeAt (now (corridor .entry)) i .start ⌝ }
+{
+    NodeState {
+        vehicles: Units(node_word(corridor, i, 7)),
+        queue: Units(node_word(corridor, i, 8)),
+    }
+}
+
+// The state of node i in a record's row.
+pub fn state_at(row: &[u32], i: usize) -> NodeState
+    requires { ⌜ i * 4 + 4 ≤ length (now row) ⌝ }
+    ensures { λ r. ⌜ stateOf r ≡ stateIn (now (row .entry)) i ⌝ }
+{
+    NodeState {
+        vehicles: Units(row_word(row, 4, i, 0)),
+        queue: Units(row_word(row, 4, i, 1)),
+    }
+}
+
+// The flows of node i in a record's row.
+pub fn flows_at(row: &[u32], i: usize) -> Flows
+    requires { ⌜ i * 4 + 4 ≤ length (now row) ⌝ }
+    ensures { λ r. ⌜ flowsOf r ≡ flowsIn (now (row .entry)) i ⌝ }
+{
+    Flows {
+        main: Units(row_word(row, 4, i, 2)),
+        ramp: Units(row_word(row, 4, i, 3)),
+    }
+}
+
+// The arrivals of node i in a row of the demands.
+pub fn arrivals_at(row: &[u32], i: usize) -> Units
+    requires { ⌜ i * 2 + 2 ≤ length (now row) ⌝ }
+    ensures { λ r. ⌜ r .0 ≡ getD (now (row .entry)) (i * 2 + 0) 0 ⌝ }
+{
+    Units(row_word(row, 2, i, 0))
+}
+
+// The split of node i in a row of the demands.
+pub fn split_at(row: &[u32], i: usize) -> Parts
+    requires { ⌜ i * 2 + 2 ≤ length (now row) ⌝ }
+    ensures { λ r. ⌜ r .0 ≡ getD (now (row .entry)) (i * 2 + 1) 0 ⌝ }
+{
+    Parts(row_word(row, 2, i, 1))
+}
+
+// The metering rate of node i in a row of the plan.
+pub fn rate_at(row: &[u32], i: usize) -> Units
+    requires { ⌜ i * 2 + 2 ≤ length (now row) ⌝ }
+    ensures { λ r. ⌜ r .0 ≡ getD (now (row .entry)) (i * 2 + 0) 0 ⌝ }
+{
+    Units(row_word(row, 2, i, 0))
+}
+
+// The posted limit of node i in a row of the plan.
+pub fn limit_at(row: &[u32], i: usize) -> Speed
+    requires { ⌜ i * 2 + 2 ≤ length (now row) ⌝ }
+    ensures { λ r. ⌜ r .0 ≡ getD (now (row .entry)) (i * 2 + 1) 0 ⌝ }
+{
+    Speed(row_word(row, 2, i, 1))
+}
+
+// What the merge of node i may pass on, in the state that a record's row gives: no demand has a part in it.
+pub fn supply_at(corridor: &[u32], links: usize, state: &[u32], i: usize) -> Units
+    requires { ⌜ CorridorFits (now corridor) links ⌝ }
+    requires { ⌜ RowFits 4 (now state) links ⌝ }
+    requires { ⌜ JamKept (now corridor) (now state) links ⌝ }
+    requires { ⌜ i ≤ links ⌝ }
+    ensures { λ r. ⌜ ((demand : List ℕ) → r .0 ≡ supply (stepRoad (now (corridor .entry)) demand) 0 (stateIn (now (state .entry))) i) ⌝ }
+{
+    if i < links {
+        let link = link_at(corridor, i + 1);
+        let next = state_at(state, i + 1);
+        return road::inner::receiving(link, next.vehicles);
+    }
+    Units(65536)
+}
+
+// What rules 1 to 5 ask of node i at a step, whose rows of the demands and of the record are lent.
+pub fn junction_at(
+    corridor: &[u32],
+    links: usize,
+    demand: &[u32],
+    state: &[u32],
+    i: usize,
+) -> Junction
+    requires { ⌜ CorridorFits (now corridor) links ⌝ }
+    requires { ⌜ RowFits 2 (now demand) links ⌝ }
+    requires { ⌜ RowFits 4 (now state) links ⌝ }
+    requires { ⌜ JamKept (now corridor) (now state) links ⌝ }
+    requires { ⌜ i ≤ links ⌝ }
+    ensures { λ r. ⌜ junctionOf r ≡ junction (stepRoad (now (corridor .entry)) (now (demand .entry))) 0 (stateIn (now (state .entry))) i ⌝ }
+{
+    Junction {
+        link: link_at(corridor, i),
+        ramp: ramp_at(corridor, i),
+        state: state_at(state, i),
+        split: split_at(demand, i),
+        supply: supply_at(corridor, links, state, i),
+    }
+}

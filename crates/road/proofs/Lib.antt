@@ -1,0 +1,7 @@
+pub mod Quotients
+pub mod Rules
+pub mod Runs
+pub mod Same
+pub mod Zeros
+pub mod Sizes
+pub mod Conservation

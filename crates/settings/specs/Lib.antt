@@ -1,0 +1,4 @@
+pub mod Rate
+pub mod Setting
+pub mod Share
+pub mod Cases

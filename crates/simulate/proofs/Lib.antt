@@ -1,0 +1,5 @@
+pub mod Rows
+pub mod Steps
+pub mod Runs
+pub mod Answers
+pub mod Sets

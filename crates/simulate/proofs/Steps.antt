@@ -1,0 +1,149 @@
+-- A step on its rows is a step of the run: from the row of state k to the record's row k and the row of state k + 1.
+use Prim.Native.Nat.{ℕ, zero, suc, _+_, _-_, _*_, _≤_, _<_}
+use mathlib.Core.List.{List, []}
+use mathlib.Core.Path.{_≡_, refl, sym, ap, subst, _∙_}
+use native.Mathlib.Omega.{arith}
+use lib.ListN.{length, getD, take, drop}
+use Rattle.tables.specs.Grid.{rowWords}
+use Rattle.tables.specs.Sum.{sum}
+use Rattle.tables.proofs.Grid.{rowWords-same}
+use Rattle.tables.proofs.Part.{part-at}
+use Rattle.tables.proofs.Sum.{sum-same}
+use Rattle.road.specs.Corridor.{NodeState, Flows, Road, Plan, nodes}
+use Rattle.road.specs.Step.{Junction, flowsWith, outflow, moved}
+use Rattle.road.specs.Run.{supply, junction, inflow, next, planFlows, stateAt, noFlow}
+use Rattle.road.specs.Limits.{Limits, Bounded}
+use Rattle.road.proofs.Runs.{link-tops, run-jam}
+use Rattle.road.proofs.Same.{Same, junction-same, next-same}
+use Rattle.road.proofs.Sizes.{run-state-fits}
+use Rattle.lists.specs.Words.{linksOf, stepsOf, nodeAt, demandsWord, roadOf, planOf, nodeWord}
+use Rattle.lists.specs.Rows.{stateIn, flowsIn, stepRoad}
+use Rattle.simulate.specs.Rows.{rowOf, startRow, rowFlows, flowRow, nextRow, rowCost, StepKept}
+use Rattle.simulate.specs.Simulate.{stateRow, stepRow, stateCost}
+use Rattle.simulate.proofs.Rows.{row-state, row-flows}
+
+-- rows with the same states and flows at nodes 0..N are one list
+row-same : (links : ℕ) (state after : ℕ → NodeState) (flows other : ℕ → Flows) → ((i : ℕ) → i ≤ links → state i ≡ after i)
+    → ((i : ℕ) → i ≤ links → flows i ≡ other i) → rowOf links state flows ≡ rowOf links after other
+unfolding rowOf
+row-same links state after flows other s f =
+    rowWords-same 4 (suc links) _ _
+    (λ i q h b. ap (λ (x : NodeState). nodeWord x (flows i) q) (s i (omega arith)) ∙ ap (λ (x : Flows). nodeWord (after i) x q) (f i (omega arith)))
+
+module _ (corridor demands words : List ℕ) (k : ℕ) where
+  abbrev road : Road
+  road = roadOf corridor demands
+
+  abbrev plan : Plan
+  plan = planOf (roadOf corridor demands) words
+
+  -- row k of the demands and of the plan, as the code lends them
+  pub record StepRows (demand rates : List ℕ) : Type 0 where
+    pub arrivals : (i : ℕ) → i ≤ linksOf corridor → getD demand (i * 2 + 0) 0 ≡ roadOf corridor demands .arrivals k i
+    pub split : (i : ℕ) → i ≤ linksOf corridor → getD demand (i * 2 + 1) 0 ≡ roadOf corridor demands .split k i
+    pub rate : (i : ℕ) → i ≤ linksOf corridor → getD rates (i * 2 + 0) 0 ≡ planOf (roadOf corridor demands) words .rate k i
+    pub limit : (i : ℕ) → i ≤ linksOf corridor → getD rates (i * 2 + 1) 0 ≡ planOf (roadOf corridor demands) words .limit k i
+
+  -- rows of w words, which start at d and at p
+  pub step-rows : (w d p : ℕ) → w ≡ suc (linksOf corridor) * 2 → d ≡ 1 + k * w → p ≡ k * w
+      → StepRows (take (d + w - d) (drop d demands)) (take (p + w - p) (drop p words))
+  unfolding roadOf planOf
+  step-rows w d p width e q =
+      record {
+        arrivals = λ i h. demand i 0 h (omega arith);
+        split = λ i h. demand i 1 h (omega arith);
+        rate = λ i h. rate i 0 h (omega arith);
+        limit = λ i h. rate i 1 h (omega arith);
+      }
+    where
+      demand : (i j : ℕ) → i ≤ linksOf corridor → j < 2 → getD (take (d + w - d) (drop d demands)) (i * 2 + j) 0 ≡ demandsWord demands (linksOf corridor) k i j
+      demand i j h b =
+          let t : d + (i * 2 + j) ≡ 1 + (k * w + (i * 2 + j)) = omega arith in
+          part-at d w demands (i * 2 + j) 0 (omega arith)
+          ∙ ap (λ (n : ℕ). getD demands n 0) t
+          ∙ ap (λ (n : ℕ). getD demands (1 + (k * n + (i * 2 + j))) 0) width
+
+      rate : (i j : ℕ) → i ≤ linksOf corridor → j < 2 → getD (take (p + w - p) (drop p words)) (i * 2 + j) 0 ≡ getD words (k * (suc (linksOf corridor) * 2) + (i * 2 + j)) 0
+      rate i j h b =
+          part-at p w words (i * 2 + j) 0 (omega arith)
+          ∙ ap (λ (n : ℕ). getD words (n + (i * 2 + j)) 0) q
+          ∙ ap (λ (n : ℕ). getD words (k * n + (i * 2 + j)) 0) width
+
+  module _ (demand rates : List ℕ) (rows : StepRows demand rates) where
+    -- one step's demands say of a node what the whole demands say at step k
+    step-junction : (state : ℕ → NodeState) (i : ℕ) → i ≤ linksOf corridor → junction (stepRoad corridor demand) 0 state i ≡ junction road k state i
+    unfolding junction supply stepRoad roadOf
+    step-junction state i h =
+        λ z.
+        record {
+          link = nodeAt corridor i .link;
+          ramp = nodeAt corridor i .ramp;
+          state = state i;
+          split = rows .split i h z;
+          supply = supply road k state i;
+        }
+
+    step-inflow : (flows : ℕ → Flows) (i : ℕ) → i ≤ linksOf corridor → inflow (stepRoad [] demand) 0 flows i ≡ inflow road k flows i
+    unfolding inflow stepRoad
+    step-inflow flows zero h = refl
+    step-inflow flows (suc j) h = ap (λ (b : ℕ). outflow (flows j) b) (rows .split j (omega arith))
+
+    step-next : (state : ℕ → NodeState) (flows : ℕ → Flows) (i : ℕ) → i ≤ linksOf corridor → next (stepRoad [] demand) 0 state flows i ≡ next road k state flows i
+    unfolding next stepRoad
+    step-next state flows i h =
+        ap (λ (x : ℕ). moved (state i) x (getD demand (i * 2 + 0) 0) (flows i)) (step-inflow flows i h)
+        ∙ ap (λ (x : ℕ). moved (state i) (inflow road k flows i) x (flows i)) (rows .arrivals i h)
+
+    -- the flows from the row of state k
+    step-flows : (i : ℕ) → i ≤ linksOf corridor → rowFlows corridor demand rates (stateRow corridor demands words k) i ≡ planFlows road plan k (stateAt road plan k) i
+    unfolding rowFlows planFlows roadOf stateRow
+    step-flows i h =
+        ap (λ (x : Junction). flowsWith x (getD rates (i * 2 + 0) 0) (getD rates (i * 2 + 1) 0))
+        (step-junction (stateIn (stateRow corridor demands words k)) i h
+        ∙ junction-same road k (stateIn (stateRow corridor demands words k)) (stateAt road plan k) i (λ j l. row-state (linksOf corridor) (stateAt road plan k) (λ j. noFlow) j l) h)
+        ∙ ap (λ (c : ℕ). flowsWith (junction road k (stateAt road plan k) i) c (getD rates (i * 2 + 1) 0)) (rows .rate i h)
+        ∙ ap (λ (v : ℕ). flowsWith (junction road k (stateAt road plan k) i) (plan .rate k i) v) (rows .limit i h)
+
+    pub flow-row-is : flowRow corridor (linksOf corridor) demand rates (stateRow corridor demands words k) ≡ stepRow corridor demands words k
+    unfolding flowRow stateRow stepRow
+    flow-row-is = row-same (linksOf corridor) _ _ _ _ (λ i h. row-state (linksOf corridor) (stateAt road plan k) (λ j. noFlow) i h) step-flows
+
+    pub next-row-is : nextRow (linksOf corridor) demand (stepRow corridor demands words k) ≡ stateRow corridor demands words (suc k)
+    unfolding nextRow stateAt roadOf stateRow stepRow
+    next-row-is =
+        row-same (linksOf corridor) _ _ _ _
+        (λ i h.
+        step-next (stateIn (stepRow corridor demands words k)) (flowsIn (stepRow corridor demands words k)) i h
+        ∙ next-same road k (stateIn (stepRow corridor demands words k)) (stateAt road plan k) (flowsIn (stepRow corridor demands words k)) (planFlows road plan k (stateAt road plan k)) i
+        (λ j l. row-state (linksOf corridor) (stateAt road plan k) _ j l)
+        (λ j l. row-flows (linksOf corridor) (stateAt road plan k) _ j l)
+        h)
+        (λ i h. refl)
+
+    -- within limits and bounds the row of state k keeps what a step asks
+    pub step-kept : Limits road → Bounded road plan → k < stepsOf demands → (i : ℕ) → i ≤ linksOf corridor → StepKept corridor demand rates (stateRow corridor demands words k) i
+    unfolding roadOf stateRow
+    step-kept limits bounded hk i hi =
+        let s : stateIn (stateRow corridor demands words k) i ≡ stateAt road plan k i = row-state (linksOf corridor) (stateAt road plan k) (λ j. noFlow) i hi in
+        let n : stateIn (stateRow corridor demands words k) i .vehicles ≡ stateAt road plan k i .vehicles = ap (λ (x : NodeState). x .vehicles) s in
+        let l : stateIn (stateRow corridor demands words k) i .queue ≡ stateAt road plan k i .queue = ap (λ (x : NodeState). x .queue) s in
+        let fits = run-state-fits road limits plan k i (omega arith) hi in
+        record {
+          jam = omega (arith, run-jam road limits plan k i (omega arith) hi);
+          vehicles = omega (arith, fits .vehicles);
+          queue = omega (arith, fits .queue);
+          arrivals = omega (arith, rows .arrivals i hi, limits .demand k i hk hi .arrivals);
+          split = omega (arith, rows .split i hi, limits .demand k i hk hi .split);
+          limit = omega (arith, rows .limit i hi, bounded k i hk hi .limit, link-tops road limits i hi .fullSpeed);
+        }
+
+-- the sum of its row is the cost of state k
+pub state-cost-is : (corridor demands words : List ℕ) (k : ℕ) → rowCost (linksOf corridor) (stateRow corridor demands words k) ≡ stateCost corridor demands words k
+unfolding rowCost stateRow stateCost
+state-cost-is corridor demands words k =
+    sum-same (suc (linksOf corridor)) _ _ (λ i h. ap (λ (x : NodeState). x .vehicles + x .queue) (row-state (linksOf corridor) _ _ i (omega arith)))
+
+-- the corridor's start is the row of state 0
+pub start-row-is : (corridor demands words : List ℕ) → startRow corridor (linksOf corridor) ≡ stateRow corridor demands words 0
+unfolding startRow stateAt roadOf stateRow
+start-row-is corridor demands words = refl

@@ -1,0 +1,44 @@
+-- Each node keeps its state and has the flows of the plan.
+use Prim.Native.Nat.{_+_, _-_}
+use native.Mathlib.Omega.{arith}
+use Rattle.lists.specs.Rows.{stateIn}
+use Rattle.simulate.specs.Rows.{rowFlows, flowRow}
+use Rattle.simulate.proofs.Rows.{Written, written-more}
+use Rattle.simulate.proofs.Sets.{writes}
+use Rattle.simulate.proofs.inner.rows.flow_row.Statement.{statement}
+use Rattle.simulate.proofs.inner.rows.flow_row.Tie as tie
+
+abbrev Inv-loop : tie.InvT-loop
+Inv-loop corridor links demand plan state row₀ nodes i₀ row i = Written i links (stateIn state) (rowFlows corridor demand plan state) row₀ row
+
+abbrev μ-loop : tie.MeasureT-loop
+μ-loop corridor links demand plan state row₀ nodes i₀ row i = links + 1 - i
+
+plan-flows-requires : tie.Need-plan-flows-requires Inv-loop μ-loop
+plan-flows-requires c κs =
+    let k = c .before .before .before .before .before .before .before in
+    (k .pre .0, (k .pre .1 .0, omega arith))
+
+loop-again : tie.Need-loop-again Inv-loop μ-loop
+loop-again c =
+    let p = c .before .before in
+    let f = p .before .before .before in
+    written-more _ _ _ _ _ _ _ _ _ (f .before .before .loop .inv) (omega arith) (p .before .state-at .ensures) (f .plan-flows .ensures) (p .put-node .ensures)
+
+pub flow-row-spec : {M : Type 1} → statement M
+unfolding flowRow
+flow-row-spec =
+    tie.close
+    (tie.spec
+    Inv-loop
+    μ-loop
+    (λ c. search writes)
+    (λ c. search writes)
+    plan-flows-requires
+    (λ c κs. search writes)
+    (λ c κs. search writes)
+    (λ c. search writes)
+    (λ c. search writes)
+    loop-again
+    (λ c. search writes)
+    (λ c. search writes))

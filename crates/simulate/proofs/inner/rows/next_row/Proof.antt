@@ -1,0 +1,42 @@
+-- Each node has its next state, and no flow yet.
+use Prim.Native.Nat.{_+_, _-_}
+use mathlib.Core.List.{[]}
+use mathlib.Core.Path.{refl}
+use native.Mathlib.Omega.{arith}
+use Rattle.road.specs.Run.{next, noFlow}
+use Rattle.lists.specs.Rows.{stateIn, flowsIn, stepRoad}
+use Rattle.simulate.specs.Rows.{nextRow}
+use Rattle.simulate.proofs.Rows.{Written, written-more}
+use Rattle.simulate.proofs.Sets.{writes}
+use Rattle.simulate.proofs.inner.rows.next_row.Statement.{statement}
+use Rattle.simulate.proofs.inner.rows.next_row.Tie as tie
+
+abbrev Inv-loop : tie.InvT-loop
+Inv-loop links demand row state₀ nodes i₀ state i = Written i links (next (stepRoad [] demand) 0 (stateIn row) (flowsIn row)) (λ j. noFlow) state₀ state
+
+abbrev μ-loop : tie.MeasureT-loop
+μ-loop links demand row state₀ nodes i₀ state i = links + 1 - i
+
+loop-again : tie.Need-loop-again Inv-loop μ-loop
+unfolding noFlow
+loop-again c =
+    let p = c .before .before in
+    let k = p .before .before .before .before in
+    written-more _ _ _ _ _ _ _ _ _ (k .loop .inv) (omega arith) (p .before .moved-at .ensures) refl (p .put-node .ensures)
+
+pub next-row-spec : {M : Type 1} → statement M
+unfolding nextRow
+next-row-spec =
+    tie.close
+    (tie.spec
+    Inv-loop
+    μ-loop
+    (λ c. search writes)
+    (λ c. search writes)
+    (λ c κs. search writes)
+    (λ c κs. search writes)
+    (λ c. search writes)
+    (λ c. search writes)
+    loop-again
+    (λ c. search writes)
+    (λ c. search writes))

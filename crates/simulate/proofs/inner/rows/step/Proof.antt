@@ -1,0 +1,23 @@
+-- The flows of the first row keep what the second asks.
+use native.Mathlib.Omega.{arith}
+use borrow.Author.Needs.{needs}
+use Rattle.simulate.proofs.Rows.{flow-moves}
+use Rattle.simulate.proofs.inner.rows.step.Statement.{statement}
+use Rattle.simulate.proofs.inner.rows.step.Tie as tie
+
+next-row-requires : tie.Need-next-row-requires
+next-row-requires c κs =
+    let f = c .before .before .before .before in
+    let k = f .before .before .before .before .before .before .before .before in
+    (search needs, flow-moves _ _ _ _ _ _ (k .pre .1 .0) (f .flow-row .ensures))
+
+pub step-spec : {M : Type 1} → statement M
+step-spec =
+    tie.close
+    (tie.spec
+    (λ c κs. search needs)
+    next-row-requires
+    (λ c κs. search needs)
+    (λ c. search needs)
+    (λ c. search needs)
+    (λ c. search needs))

@@ -1,0 +1,133 @@
+// The run of all steps, row by row: into a record, or on the state alone.
+ghost use mathlib.Core.Path.{_≡_};
+ghost use Prim.Native.Nat.{ℕ, suc, _+_, _*_, _≤_, _<_};
+ghost use lib.ListN.{length};
+ghost use Rattle.lists.specs.Words.{linksOf, stepsOf, traceLength, recordLength};
+ghost use Rattle.lists.specs.Fits.{RowFits};
+ghost use Rattle.simulate.specs.Simulate.{Sound, stateRow, stepRow, stateCost, runCost, runWords, simulated};
+use crate::inner::rows;
+use lists::inner::scans;
+use lists::inner::words;
+
+// Step k: the record's row of it, and the next state in the state's place. It gives the next state's vehicles and queues.
+fn step_at(
+    corridor: &[u32],
+    demands: &[u32],
+    plan: &[u32],
+    k: usize,
+    state: &mut [u32],
+    row: &mut [u32],
+) -> u64
+    requires { ⌜ Sound (now corridor) (now demands) (now plan) ⌝ }
+    requires { ⌜ k < stepsOf (now demands) ⌝ }
+    requires { ⌜ now state ≡ stateRow (now corridor) (now demands) (now plan) k ⌝ }
+    requires { ⌜ RowFits 4 (now row) (linksOf (now corridor)) ⌝ }
+    ensures { λ r. ⌜ (now (row .exit) ≡ stepRow (now (corridor .entry)) (now (demands .entry)) (now (plan .entry)) k) × (now (state .exit) ≡ stateRow (now (corridor .entry)) (now (demands .entry)) (now (plan .entry)) (suc k)) × (r ≡ stateCost (now (corridor .entry)) (now (demands .entry)) (now (plan .entry)) (suc k)) × (r ≤ 558345748350) ⌝ }
+{
+    let links = words::links_of(corridor);
+    let width = (links + 1) * 2;
+    let at = scans::row_at(k, width, words::steps_of(demands));
+    let end = at + width;
+    let from = 1 + at;
+    let to = from + width;
+    rows::step(
+        corridor,
+        links,
+        &demands[from..to],
+        &plan[at..end],
+        state,
+        row,
+    )
+}
+
+// All steps on the state alone; `row` is room for a step's row. It gives the cost.
+pub fn run_state(
+    corridor: &[u32],
+    demands: &[u32],
+    plan: &[u32],
+    state: &mut [u32],
+    row: &mut [u32],
+) -> u64
+    requires { ⌜ Sound (now corridor) (now demands) (now plan) ⌝ }
+    requires { ⌜ now state ≡ stateRow (now corridor) (now demands) (now plan) 0 ⌝ }
+    requires { ⌜ RowFits 4 (now row) (linksOf (now corridor)) ⌝ }
+    ensures { λ r. ⌜ (now (state .exit) ≡ stateRow (now (corridor .entry)) (now (demands .entry)) (now (plan .entry)) (stepsOf (now (demands .entry)))) × (r ≡ runCost (now (corridor .entry)) (now (demands .entry)) (now (plan .entry))) ⌝ }
+{
+    let steps = words::steps_of(demands);
+    let mut total: u64 = 0;
+    let mut k: usize = 0;
+    while k < steps {
+        total += step_at(corridor, demands, plan, k, state, row);
+        k += 1;
+    }
+    total
+}
+
+// A row, copied.
+fn copy_row(from: &[u32], to: &mut [u32])
+    requires { ⌜ length (now from) ≡ length (now to) ⌝ }
+    ensures { λ _. ⌜ now (to .exit) ≡ now (from .entry) ⌝ }
+{
+    let mut i: usize = 0;
+    while i < to.len() {
+        to[i] = from[i];
+        i += 1;
+    }
+}
+
+// All steps, each with its row of the record. It gives the cost.
+fn run_steps(
+    corridor: &[u32],
+    demands: &[u32],
+    plan: &[u32],
+    state: &mut [u32],
+    states: &mut [u32],
+) -> u64
+    requires { ⌜ Sound (now corridor) (now demands) (now plan) ⌝ }
+    requires { ⌜ now state ≡ stateRow (now corridor) (now demands) (now plan) 0 ⌝ }
+    requires { ⌜ length (now states) ≡ traceLength (linksOf (now corridor)) (stepsOf (now demands)) ⌝ }
+    ensures { λ r. ⌜ (now (states .exit) ≡ runWords (now (corridor .entry)) (now (demands .entry)) (now (plan .entry))) × (r ≡ runCost (now (corridor .entry)) (now (demands .entry)) (now (plan .entry))) × (r ≤ 804017877624000) ⌝ }
+{
+    let links = words::links_of(corridor);
+    let steps = words::steps_of(demands);
+    let width = (links + 1) * 4;
+    let count = steps + 1;
+    let mut total: u64 = 0;
+    let mut k: usize = 0;
+    while k < steps {
+        let at = scans::row_at(k, width, count);
+        let end = at + width;
+        total += step_at(corridor, demands, plan, k, state, &mut states[at..end]);
+        k += 1;
+    }
+    let last = scans::row_at(steps, width, count);
+    let past = last + width;
+    copy_row(state, &mut states[last..past]);
+    total
+}
+
+// The same from the corridor's start, with room for a state of 65 nodes.
+fn run_all(corridor: &[u32], demands: &[u32], plan: &[u32], states: &mut [u32]) -> u64
+    requires { ⌜ Sound (now corridor) (now demands) (now plan) ⌝ }
+    requires { ⌜ length (now states) ≡ traceLength (linksOf (now corridor)) (stepsOf (now demands)) ⌝ }
+    ensures { λ r. ⌜ (now (states .exit) ≡ runWords (now (corridor .entry)) (now (demands .entry)) (now (plan .entry))) × (r ≡ runCost (now (corridor .entry)) (now (demands .entry)) (now (plan .entry))) × (r ≤ 804017877624000) ⌝ }
+{
+    let links = words::links_of(corridor);
+    let width = (links + 1) * 4;
+    let mut room = [0u32; 260];
+    let state = &mut room[..width];
+    rows::start_row(corridor, links, state);
+    run_steps(corridor, demands, plan, state, states)
+}
+
+// The whole record: the words of all states, then the cost.
+pub fn write_record(corridor: &[u32], demands: &[u32], plan: &[u32], output: &mut [u32])
+    requires { ⌜ Sound (now corridor) (now demands) (now plan) ⌝ }
+    requires { ⌜ length (now output) ≡ recordLength (linksOf (now corridor)) (stepsOf (now demands)) ⌝ }
+    ensures { λ _. ⌜ now (output .exit) ≡ simulated (now (corridor .entry)) (now (demands .entry)) (now (plan .entry)) ⌝ }
+{
+    let end = output.len() - 2;
+    let total = run_all(corridor, demands, plan, &mut output[..end]);
+    output[end] = (total % 4294967296) as u32;
+    output[end + 1] = (total / 4294967296) as u32;
+}

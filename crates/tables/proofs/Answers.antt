@@ -1,0 +1,87 @@
+-- Laws of answers: of `orElse`, of a `refusal` by its number, of `unless`, and of what is `left` of a lent list.
+use mathlib.Core.Bool.{Bool, true, false}
+use mathlib.Core.List.{List}
+use mathlib.Core.Logic.{_↔_, _≢_}
+use mathlib.Core.Path.{_≡_, refl, sym, ap, _∙_, subst}
+use Prim.Native.Nat.{ℕ, zero, suc}
+use native.Mathlib.Omega.{arith}
+use Rattle.tables.specs.declared.Answer.{Answer}
+use Rattle.tables.specs.declared.Answer.the-variants.{Accepted, Refused}
+use Rattle.tables.specs.Answer.{numberOf, orElse, refusal, unless, left}
+
+abbrev pub Refuses : Answer → Type 0
+Refuses Accepted = ⊥
+Refuses (Refused number row node) = Unit {0}
+
+-- what a `match` tells of a value
+pub refuses-is : (a : Answer) (number row node : ℕ) → a ≡ Refused number row node → Refuses a
+refuses-is a number row node e = subst Refuses (sym e) tt
+
+pub accepted-not-refused : (number row node : ℕ) → Accepted ≡ Refused number row node → ⊥
+accepted-not-refused number row node e = subst Refuses (sym e) tt
+
+-- ---- one answer, then another
+
+pub orElse-accepts : (a b : Answer) → (orElse a b ≡ Accepted) ↔ ((a ≡ Accepted) × (b ≡ Accepted))
+orElse-accepts Accepted b = (λ e. (refl, e), λ h. h .1)
+orElse-accepts (Refused number row node) b = (λ e. absurd (accepted-not-refused number row node (sym e)), λ h. h .0)
+
+pub orElse-refuses : (a b : Answer) → Refuses a → orElse a b ≡ a
+orElse-refuses Accepted b h = absurd h
+orElse-refuses (Refused number row node) b h = refl
+
+pub orElse-right : (a : Answer) → orElse a Accepted ≡ a
+orElse-right Accepted = refl
+orElse-right (Refused number row node) = refl
+
+pub orElse-assoc : (a b c : Answer) → orElse (orElse a b) c ≡ orElse a (orElse b c)
+orElse-assoc Accepted b c = refl
+orElse-assoc (Refused number row node) b c = refl
+
+-- ---- a refusal by its number
+
+pub refusal-accepts : (x row node : ℕ) → (refusal x row node ≡ Accepted) ↔ (x ≡ 0)
+refusal-accepts zero row node = (λ e. refl, λ e. refl)
+refusal-accepts (suc x) row node = (λ e. absurd (accepted-not-refused (suc x) row node (sym e)), λ e. absurd (omega arith))
+
+pub refusal-refuses : (x row node y k i : ℕ) → (refusal x row node ≡ Refused y k i) ↔ ((x ≡ y) × (y ≢ 0) × (row ≡ k) × (node ≡ i))
+refusal-refuses zero row node y k i = (λ e. absurd (accepted-not-refused y k i e), λ h. absurd (h .1 (sym (h .0))))
+refusal-refuses (suc x) row node y k i =
+    let numbers : Refused (suc x) row node ≡ Refused y k i → suc x ≡ y = λ e. cc in
+    (λ e. let n = numbers e in (n, λ z. omega arith, cc, cc), λ h. let n = h .0 in let r = h .2 in let d = h .3 in cc)
+
+pub number-refusal : (x row node : ℕ) → numberOf (refusal x row node) ≡ x
+number-refusal zero row node = refl
+number-refusal (suc x) row node = refl
+
+-- v is the number as the code has it
+pub refusal-none : (x v row node : ℕ) → v ≡ x → v ≡ 0 → refusal x row node ≡ Accepted
+refusal-none x v row node e h = refusal-accepts x row node .1 (sym e ∙ h)
+
+pub refusal-some : (x v row node : ℕ) → v ≡ x → v ≢ 0 → Refused v row node ≡ refusal x row node
+refusal-some x v row node e h = sym (refusal-refuses x row node v row node .1 (sym e, h, refl, refl))
+
+pub refusal-same : (x y row node : ℕ) → x ≡ y → refusal x row node ≡ refusal y row node
+refusal-same x y row node e = ap (λ (n : ℕ). refusal n row node) e
+
+-- ---- a fault unless a test holds
+
+pub unless-none : (t : Bool) (x : ℕ) → x ≢ 0 → (unless t x ≡ 0) ↔ (t ≡ true)
+unless-none true x h = (λ e. refl, λ e. refl)
+unless-none false x h = (λ e. absurd (h e), λ e. cc)
+
+pub unless-some : (t : Bool) (x y : ℕ) → y ≢ 0 → (unless t x ≡ y) ↔ ((t ≡ false) × (x ≡ y))
+unless-some true x y h = (λ e. absurd (h (sym e)), λ p. cc)
+unless-some false x y h = (λ e. (refl, e), λ p. p .1)
+
+pub refusal-unless : (t : Bool) (x row node : ℕ) → x ≢ 0 → (refusal (unless t x) row node ≡ Accepted) ↔ (t ≡ true)
+refusal-unless t x row node h =
+    (λ e. unless-none t x h .0 (refusal-accepts (unless t x) row node .0 e), λ e. refusal-accepts (unless t x) row node .1 (unless-none t x h .1 e))
+
+-- ---- what is left of a lent list: a is the answer as the code has it, and l the list at exit
+
+pub left-refused : (a b : Answer) (number row node : ℕ) (new lent : List ℕ) → a ≡ b → a ≡ Refused number row node → lent ≡ left b new lent
+left-refused a b number row node new lent e h = ap (λ (x : Answer). left x new lent) (sym h ∙ e)
+
+pub left-accepted : (a b : Answer) (new lent l : List ℕ) → a ≡ b → a ≡ Accepted → l ≡ new → l ≡ left b new lent
+left-accepted a b new lent l e h w = w ∙ ap (λ (x : Answer). left x new lent) (sym h ∙ e)

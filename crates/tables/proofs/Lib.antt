@@ -1,0 +1,9 @@
+pub mod Numbers
+pub mod Answers
+pub mod First
+pub mod Part
+pub mod Tabulate
+pub mod Grid
+pub mod Sum
+pub mod Least
+pub mod Sets
