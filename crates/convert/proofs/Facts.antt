@@ -1,12 +1,13 @@
 -- Refusals 7 to 13 as facts: each is due exactly where its facts fail, and what is left of them where 7 to 11 and 13 are not due.
 use Prim.Native.Nat.{ℕ, suc, _+_, _/_, _%_, _≤_, _<_, min}
-use mathlib.Core.Bool.{Bool, true, false, true≢false}
+use mathlib.Core.Bool.{Bool, true, false, not, _&&_, true≢false}
 use mathlib.Core.List.{List}
 use mathlib.Core.Path.{_≡_, refl, sym, ap, _∙_}
 use mathlib.Core.Logic.{_↔_, _≢_}
 use native.Mathlib.Omega.{arith}
+use borrow.Author.Tests.{le-leb, lt-leb, not-true, not-false}
 use lib.ListN.{getD}
-use lib.Dec.{leb}
+use lib.Dec.{leb, eqb}
 use Rattle.tables.specs.declared.Answer.the-variants.{Accepted}
 use Rattle.tables.specs.Answer.{refusal, unless}
 use Rattle.tables.specs.First.{firstPlace}
@@ -18,6 +19,7 @@ use Rattle.road.specs.Run.{junction, next, noFlow, cost}
 use Rattle.road.proofs.Rules.{flows-eq, state-eq}
 use Rattle.settings.specs.Share.{Permitted}
 use Rattle.lists.specs.Words.{traceOf, traceLength}
+use Rattle.lists.specs.Refusals.{implies}
 use Rattle.lists.proofs.Tests.{le-holds, eq-holds, both-hold, implies-holds, no-fault}
 use Rattle.lists.proofs.Words.{CostWords}
 use Rattle.convert.specs.Refusals.{sameState, unlessThen, fixedFault, stepFault, costFault, fixedAt, stepAt, judged}
@@ -36,6 +38,9 @@ then-no-fault false x rest h p q = (λ e. absurd (h e), λ f. absurd (true≢fal
 
 then-passes : (t : Bool) (x rest : ℕ) → t ≡ true → unlessThen t x rest ≡ rest
 then-passes t x rest e = simp e
+
+then-fails : (t : Bool) (x rest : ℕ) → t ≡ false → x ≡ unlessThen t x rest
+then-fails t x rest e = simp e
 
 -- ---- 7. state 0 and the fixed zeros
 
@@ -74,6 +79,33 @@ fixed-iff road k i state flows =
             ),
           ),
     )
+
+-- its four tests, as calls answered them: the first that fails decides
+module _ (road : Road) (k i links steps : ℕ) (start state : NodeState) (flows : Flows) (l : links ≡ road .links) (s : steps ≡ road .steps) (t : start ≡ road .node i .start) where
+  fixed-tests : (a b c d : Bool) → a ≡ implies (eqb k 0) (sameState state start) → b ≡ implies (eqb k steps) (eqb (flows .main) 0 && eqb (flows .ramp) 0)
+      → c ≡ implies (eqb i 0) (eqb (state .vehicles) 0 && eqb (flows .main) 0) → d ≡ implies (eqb i links) (eqb (state .queue) 0 && eqb (flows .ramp) 0)
+      → unless (a && (b && (c && d))) 7 ≡ fixedFault road k i state flows
+  unfolding fixedFault
+  fixed-tests a b c d p q r u = rw (p, q, r, u, l, s, t)
+
+  module _ (a : Bool) (p : a ≡ implies (eqb k 0) (sameState state start)) where
+    pub fixed-first : not a ≡ true → 7 ≡ fixedFault road k i state flows
+    fixed-first h = simp (not-true a h) at (fixed-tests a _ _ _ p refl refl refl)
+
+    module _ (f : not a ≡ false) (b : Bool) (q : b ≡ implies (eqb k steps) (eqb (flows .main) 0 && eqb (flows .ramp) 0)) where
+      pub fixed-last : not b ≡ true → 7 ≡ fixedFault road k i state flows
+      fixed-last h = simp (not-false a f, not-true b h) at (fixed-tests a b _ _ p q refl refl)
+
+      module _ (g : not b ≡ false) (c : Bool) (r : c ≡ implies (eqb i 0) (eqb (state .vehicles) 0 && eqb (flows .main) 0)) where
+        pub fixed-entry : not c ≡ true → 7 ≡ fixedFault road k i state flows
+        fixed-entry h = simp (not-false a f, not-false b g, not-true c h) at (fixed-tests a b c _ p q r refl)
+
+        module _ (e : not c ≡ false) (d : Bool) (u : d ≡ implies (eqb i links) (eqb (state .queue) 0 && eqb (flows .ramp) 0)) where
+          pub fixed-exit : not d ≡ true → 7 ≡ fixedFault road k i state flows
+          fixed-exit h = simp (not-false a f, not-false b g, not-false c e, not-true d h) at (fixed-tests a b c d p q r u)
+
+          pub fixed-none : not d ≡ false → 0 ≡ fixedFault road k i state flows
+          fixed-none h = simp (not-false a f, not-false b g, not-false c e, not-false d h) at (fixed-tests a b c d p q r u)
 
 -- ---- 8 to 11. the flows are permitted, and the next state is the one that rule 6 gives
 
@@ -114,6 +146,43 @@ step-queue junction flows moved after s =
     ∙ then-passes _ 10 _ (le-holds _ _ .1 (s .permitted .offered))
     ∙ then-passes _ 11 _ (sameState-holds after moved .1 (s .moves))
 
+-- ---- 8 to 12, as a test that fails finds each
+
+module _ (junction : Junction) (flows : Flows) (moved after : NodeState) where
+  pub step-sent : sending (junction .link) (junction .state .vehicles) (junction .link .fullSpeed) < flows .main → 8 ≡ stepFault junction flows moved after
+  unfolding stepFault
+  step-sent h = then-fails _ 8 _ (lt-leb _ _ h)
+
+  module _ (sent : flows .main ≤ sending (junction .link) (junction .state .vehicles) (junction .link .fullSpeed)) where
+    pub step-fits : junction .supply < outflow flows (junction .split) → 9 ≡ stepFault junction flows moved after
+    unfolding stepFault
+    step-fits h = sym (then-passes _ 8 _ (le-leb _ _ sent) ∙ sym (then-fails _ 9 _ (lt-leb _ _ h)))
+
+    module _ (fits : outflow flows (junction .split) ≤ junction .supply) where
+      pub step-offered : min (junction .state .queue) (junction .ramp .capacity) < flows .ramp → 10 ≡ stepFault junction flows moved after
+      unfolding stepFault
+      step-offered h = sym (then-passes _ 8 _ (le-leb _ _ sent) ∙ then-passes _ 9 _ (le-leb _ _ fits) ∙ sym (then-fails _ 10 _ (lt-leb _ _ h)))
+
+  module _ (permitted : Permitted junction flows) where
+    pub step-moves : sameState after moved ≡ false → 11 ≡ stepFault junction flows moved after
+    unfolding stepFault
+    step-moves h =
+        sym
+        (then-passes _ 8 _ (le-leb _ _ (permitted .sent))
+        ∙ then-passes _ 9 _ (le-leb _ _ (permitted .fits))
+        ∙ then-passes _ 10 _ (le-leb _ _ (permitted .offered))
+        ∙ sym (then-fails _ 11 _ h))
+
+    module _ (same : sameState after moved ≡ true) where
+      left : stepFault junction flows moved after ≡ queueFault (junction .ramp .queueLimit) (after .queue)
+      left = step-queue junction flows moved after (record { permitted = permitted; moves = sameState-holds after moved .0 same })
+
+      pub step-long : junction .ramp .queueLimit < after .queue → 12 ≡ stepFault junction flows moved after
+      step-long h = sym (left ∙ ap (λ (t : Bool). unless t 12) (lt-leb _ _ h))
+
+      pub step-none : after .queue ≤ junction .ramp .queueLimit → 0 ≡ stepFault junction flows moved after
+      step-none h = sym (left ∙ queue-iff (junction .ramp .queueLimit) (after .queue) .1 h)
+
 -- ---- 13. the cost
 
 pub cost-iff : (road : Road) (words : List ℕ) → (costFault road words ≡ 0) ↔ CostWords road words (cost road (traceOf road words))
@@ -143,7 +212,7 @@ pub record Keeps (road : Road) (words : List ℕ) : Type 0 where
   pub queues : QueuesHeld road (traceOf road words)
   pub costs : CostWords road words (cost road (traceOf road words))
 
-fixed-all : (road : Road) (trace : Trace) → (firstPlace (suc (road .steps)) (nodes road) (fixedAt road trace) ≡ Accepted)
+pub fixed-all : (road : Road) (trace : Trace) → (firstPlace (suc (road .steps)) (nodes road) (fixedAt road trace) ≡ Accepted)
     ↔ ((k i : ℕ) → k ≤ road .steps → i ≤ road .links → Fixed road k i (trace .state k i) (trace .flows k i))
 fixed-all road trace =
     let r = firstPlace-accepts (suc (road .steps)) (nodes road) (fixedAt road trace) in (
@@ -151,14 +220,15 @@ fixed-all road trace =
       λ s. r .1 (λ k i hk hi. fixed-iff road k i (trace .state k i) (trace .flows k i) .1 (s k i (omega arith) (omega arith))),
     )
 
-steps-all : (road : Road) (trace : Trace) → firstPlace (road .steps) (nodes road) (stepAt road trace) ≡ Accepted
-    → (k i : ℕ) → k < road .steps → i ≤ road .links
+-- of the first n steps
+pub steps-all : (road : Road) (trace : Trace) (n : ℕ) → firstPlace n (nodes road) (stepAt road trace) ≡ Accepted
+    → (k i : ℕ) → k < n → i ≤ road .links
     → Stepped (junction road k (trace .state k) i) (trace .flows k i) (next road k (trace .state k) (trace .flows k) i) (trace .state (suc k) i)
     × (trace .state (suc k) i .queue ≤ road .node i .ramp .queueLimit)
 unfolding junction
-steps-all road trace e k i hk hi =
+steps-all road trace n e k i hk hi =
     step-iff (junction road k (trace .state k) i) (trace .flows k i) _ (trace .state (suc k) i) .0
-    (firstPlace-accepts (road .steps) (nodes road) (stepAt road trace) .0 e k i hk (omega arith))
+    (firstPlace-accepts n (nodes road) (stepAt road trace) .0 e k i hk (omega arith))
 
 -- of a trace that keeps 7 to 11, what 8 to 12 find is what 12 finds
 pub steps-queue : (road : Road) (trace : Trace) → Moves road trace
@@ -192,8 +262,8 @@ judged-iff road words = (to, from)
         let (a, h) = orElse-accepts (firstPlace (suc (road .steps)) (nodes road) (fixedAt road trace)) _ .0 e in
         let (b, c) = orElse-accepts (firstPlace (road .steps) (nodes road) (stepAt road trace)) (refusal (costFault road words) 0 0) .0 h in
         record {
-          moves = record { fixed = fixed-all road trace .0 a; steps = λ k i hk hi. steps-all road trace b k i hk hi .0 };
-          queues = λ k i hk hi. steps-all road trace b k i hk hi .1;
+          moves = record { fixed = fixed-all road trace .0 a; steps = λ k i hk hi. steps-all road trace (road .steps) b k i hk hi .0 };
+          queues = λ k i hk hi. steps-all road trace (road .steps) b k i hk hi .1;
           costs = cost-iff road words .0 (refusal-accepts (costFault road words) 0 0 .0 c);
         }
 

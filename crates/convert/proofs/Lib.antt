@@ -1,4 +1,11 @@
+pub mod Tests
 pub mod Facts
+pub mod Kept
 pub mod Runs
 pub mod Plans
 pub mod Records
+pub mod Rows
+pub mod Steps
+pub mod Settings
+pub mod Answers
+pub mod Normal

@@ -4,29 +4,22 @@ use mathlib.Core.Path.{_≡_, refl, sym, ap, _∙_}
 use mathlib.Core.Logic.{⊎-elim}
 use native.Mathlib.Omega.{arith}
 use Rattle.tables.proofs.Numbers.{le-or-lt}
-use Rattle.road.specs.Corridor.{NodeState, Road, Plan, Trace}
+use Rattle.road.specs.Corridor.{Road, Plan, Trace}
 use Rattle.road.specs.Step.{Junction, flowsWith}
 use Rattle.road.specs.Run.{junction, planFlows, stateAt, run}
 use Rattle.road.specs.Limits.{Limits, JunctionLimits, Bounded}
-use Rattle.road.proofs.Runs.{run-flows, run-last, junction-limits, next-jam}
+use Rattle.road.proofs.Runs.{run-flows, run-last, junction-limits}
 use Rattle.road.proofs.Same.{Same, SameTraces, junction-same, next-same}
 use Rattle.settings.specs.Share.{IsSetting}
 use Rattle.settings.proofs.Settings.{setting-named, named-gives, named-rate, named-limit}
 use Rattle.convert.specs.Convert.{settingAt, planFor}
 use Rattle.convert.proofs.Facts.{Moves}
+use Rattle.convert.proofs.Kept.{jam-kept}
 
 module _ (road : Road) (limits : Limits road) (trace : Trace) (moves : Moves road trace) where
   -- n ≤ J in every state
   pub trace-jam : (k i : ℕ) → k ≤ road .steps → i ≤ road .links → trace .state k i .vehicles ≤ road .node i .link .jam
-  unfolding junction
-  trace-jam zero i hk hi =
-      omega (arith, ap (λ (s : NodeState). s .vehicles) (moves .fixed zero i hk hi .first refl), limits .start i hi .vehicles)
-  trace-jam (suc k) i hk hi =
-      omega (
-        arith,
-        ap (λ (s : NodeState). s .vehicles) (moves .steps k i hk hi .moves),
-        next-jam road limits k (trace .state k) (trace .flows k) (λ j hj. moves .steps k j hk (omega arith) .permitted .fits) i hi (trace-jam k i (omega arith) hi),
-      )
+  trace-jam k i hk hi = jam-kept road limits trace (λ j hj. moves .fixed zero j (omega arith) hj .first refl) k hk (λ h j a b. moves .steps h j (omega arith) b) i hi
 
   pub trace-limits : (k i : ℕ) → k < road .steps → i ≤ road .links → JunctionLimits (junction road k (trace .state k) i)
   trace-limits k i hk hi = junction-limits road limits k i (trace .state k) hk hi (trace-jam k i (omega arith) hi)

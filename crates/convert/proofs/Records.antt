@@ -1,10 +1,10 @@
 -- Records as word lists: a plan's record keeps all but 12, and words that keep 7 to 13 are the record of the converter's plan for them.
-use Prim.Native.Nat.{ℕ, zero, suc, _≤_, _<_}
+use Prim.Native.Nat.{ℕ, zero, _≤_, _<_}
 use mathlib.Core.List.{List}
-use mathlib.Core.Path.{_≡_, refl, sym, ap, subst, subst₂, _∙_}
+use mathlib.Core.Path.{_≡_, refl, sym, subst, subst₂, _∙_}
 use native.Mathlib.Omega.{arith}
 use lib.ListN.{length}
-use Rattle.road.specs.Corridor.{NodeState, Road, Plan, Trace}
+use Rattle.road.specs.Corridor.{Road, Plan, Trace}
 use Rattle.road.specs.Run.{junction, run, cost}
 use Rattle.road.specs.Limits.{Limits, Bounded}
 use Rattle.road.proofs.Same.{same-traces-back, cost-same}
@@ -13,6 +13,7 @@ use Rattle.lists.specs.Words.{planOf, planWords, traceOf, recordWords, recordLe
 use Rattle.lists.proofs.Words.{CostWords, plan-read, record-cost, record-read, record-same, record-written}
 use Rattle.convert.specs.Convert.{planFor}
 use Rattle.convert.proofs.Facts.{Moves, QueuesHeld, Keeps}
+use Rattle.convert.proofs.Kept.{queue-kept}
 use Rattle.convert.proofs.Runs.{run-moves, moves-same}
 use Rattle.convert.proofs.Plans.{plan-named, named-bounded, named-run}
 
@@ -37,9 +38,8 @@ module _ (road : Road) (limits : Limits road) where
   -- where 12 is kept too, every queue is within its limit, the start's included
   pub queues-within : (trace : Trace) → Moves road trace → QueuesHeld road trace
       → (k i : ℕ) → k ≤ road .steps → i ≤ road .links → trace .state k i .queue ≤ road .node i .ramp .queueLimit
-  queues-within trace moves held zero i hk hi =
-      omega (arith, ap (λ (s : NodeState). s .queue) (moves .fixed zero i hk hi .first refl), limits .start i hi .queue)
-  queues-within trace moves held (suc k) i hk hi = held k i hk hi
+  queues-within trace moves held k i hk hi =
+      queue-kept road limits trace (λ j hj. moves .fixed zero j (omega arith) hj .first refl) k (λ h j a b. held h j (omega arith) b) i hi
 
   -- ---- the converter's plan for words that keep 7 to 13
 

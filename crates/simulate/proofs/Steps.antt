@@ -1,20 +1,18 @@
 -- A step on its rows is a step of the run: from the row of state k to the record's row k and the row of state k + 1.
 use Prim.Native.Nat.{ℕ, zero, suc, _+_, _-_, _*_, _≤_, _<_}
 use mathlib.Core.List.{List, []}
-use mathlib.Core.Path.{_≡_, refl, sym, ap, subst, _∙_}
+use mathlib.Core.Path.{_≡_, refl, ap, _∙_}
 use native.Mathlib.Omega.{arith}
-use lib.ListN.{length, getD, take, drop}
-use Rattle.tables.specs.Grid.{rowWords}
-use Rattle.tables.specs.Sum.{sum}
+use lib.ListN.{getD, take, drop}
 use Rattle.tables.proofs.Grid.{rowWords-same}
 use Rattle.tables.proofs.Part.{part-at}
 use Rattle.tables.proofs.Sum.{sum-same}
-use Rattle.road.specs.Corridor.{NodeState, Flows, Road, Plan, nodes}
+use Rattle.road.specs.Corridor.{NodeState, Flows, Road, Plan}
 use Rattle.road.specs.Step.{Junction, flowsWith, outflow, moved}
 use Rattle.road.specs.Run.{supply, junction, inflow, next, planFlows, stateAt, noFlow}
 use Rattle.road.specs.Limits.{Limits, Bounded}
 use Rattle.road.proofs.Runs.{link-tops, run-jam}
-use Rattle.road.proofs.Same.{Same, junction-same, next-same}
+use Rattle.road.proofs.Same.{junction-same, next-same}
 use Rattle.road.proofs.Sizes.{run-state-fits}
 use Rattle.lists.specs.Words.{linksOf, stepsOf, nodeAt, demandsWord, roadOf, planOf, nodeWord}
 use Rattle.lists.specs.Rows.{stateIn, flowsIn, stepRoad}
@@ -30,6 +28,51 @@ row-same links state after flows other s f =
     rowWords-same 4 (suc links) _ _
     (λ i q h b. ap (λ (x : NodeState). nodeWord x (flows i) q) (s i (omega arith)) ∙ ap (λ (x : Flows). nodeWord (after i) x q) (f i (omega arith)))
 
+module _ (corridor demands : List ℕ) (k : ℕ) where
+  -- row k of the demands, as the code has it
+  pub record DemandRow (demand : List ℕ) : Type 0 where
+    pub arrivals : (i : ℕ) → i ≤ linksOf corridor → getD demand (i * 2 + 0) 0 ≡ roadOf corridor demands .arrivals k i
+    pub split : (i : ℕ) → i ≤ linksOf corridor → getD demand (i * 2 + 1) 0 ≡ roadOf corridor demands .split k i
+
+  -- d is where the row starts, and w its width
+  pub demand-row : (d w : ℕ) → d ≡ 1 + k * w → w ≡ suc (linksOf corridor) * 2 → DemandRow (take (d + w - d) (drop d demands))
+  unfolding roadOf
+  demand-row d w e q = record { arrivals = λ i h. word i 0 h (omega arith); split = λ i h. word i 1 h (omega arith) }
+    where
+      word : (i j : ℕ) → i ≤ linksOf corridor → j < 2 → getD (take (d + w - d) (drop d demands)) (i * 2 + j) 0 ≡ demandsWord demands (linksOf corridor) k i j
+      word i j h b =
+          part-at d w demands (i * 2 + j) 0 (omega arith)
+          ∙ let t : d + (i * 2 + j) ≡ 1 + (k * w + (i * 2 + j)) = omega arith in
+          ap (λ (n : ℕ). getD demands n 0) t
+          ∙ ap (λ (n : ℕ). getD demands (1 + (k * n + (i * 2 + j))) 0) q
+
+  module _ (demand : List ℕ) (row : DemandRow demand) where
+    -- one step's demands say of a node what the whole demands say at step k
+    pub step-junction : (state : ℕ → NodeState) (i : ℕ) → i ≤ linksOf corridor → junction (stepRoad corridor demand) 0 state i ≡ junction (roadOf corridor demands) k state i
+    unfolding junction supply stepRoad roadOf
+    step-junction state i h =
+        λ z.
+        record {
+          link = nodeAt corridor i .link;
+          ramp = nodeAt corridor i .ramp;
+          state = state i;
+          split = row .split i h z;
+          supply = supply (roadOf corridor demands) k state i;
+        }
+
+    step-inflow : (lane : List ℕ) (flows : ℕ → Flows) (i : ℕ) → i ≤ linksOf corridor → inflow (stepRoad lane demand) 0 flows i ≡ inflow (roadOf corridor demands) k flows i
+    unfolding inflow stepRoad
+    step-inflow lane flows zero h = refl
+    step-inflow lane flows (suc j) h = ap (λ (b : ℕ). outflow (flows j) b) (row .split j (omega arith))
+
+    -- rule 6 asks nothing of the corridor: `lane` is any
+    pub step-next : (lane : List ℕ) (state : ℕ → NodeState) (flows : ℕ → Flows) (i : ℕ) → i ≤ linksOf corridor
+        → next (stepRoad lane demand) 0 state flows i ≡ next (roadOf corridor demands) k state flows i
+    unfolding next stepRoad
+    step-next lane state flows i h =
+        ap (λ (x : ℕ). moved (state i) x (getD demand (i * 2 + 0) 0) (flows i)) (step-inflow lane flows i h)
+        ∙ ap (λ (x : ℕ). moved (state i) (inflow (roadOf corridor demands) k flows i) x (flows i)) (row .arrivals i h)
+
 module _ (corridor demands words : List ℕ) (k : ℕ) where
   abbrev road : Road
   road = roadOf corridor demands
@@ -39,8 +82,7 @@ module _ (corridor demands words : List ℕ) (k : ℕ) where
 
   -- row k of the demands and of the plan, as the code lends them
   pub record StepRows (demand rates : List ℕ) : Type 0 where
-    pub arrivals : (i : ℕ) → i ≤ linksOf corridor → getD demand (i * 2 + 0) 0 ≡ roadOf corridor demands .arrivals k i
-    pub split : (i : ℕ) → i ≤ linksOf corridor → getD demand (i * 2 + 1) 0 ≡ roadOf corridor demands .split k i
+    pub demand-row : DemandRow corridor demands k demand
     pub rate : (i : ℕ) → i ≤ linksOf corridor → getD rates (i * 2 + 0) 0 ≡ planOf (roadOf corridor demands) words .rate k i
     pub limit : (i : ℕ) → i ≤ linksOf corridor → getD rates (i * 2 + 1) 0 ≡ planOf (roadOf corridor demands) words .limit k i
 
@@ -50,19 +92,11 @@ module _ (corridor demands words : List ℕ) (k : ℕ) where
   unfolding roadOf planOf
   step-rows w d p width e q =
       record {
-        arrivals = λ i h. demand i 0 h (omega arith);
-        split = λ i h. demand i 1 h (omega arith);
+        demand-row = demand-row corridor demands k d w e width;
         rate = λ i h. rate i 0 h (omega arith);
         limit = λ i h. rate i 1 h (omega arith);
       }
     where
-      demand : (i j : ℕ) → i ≤ linksOf corridor → j < 2 → getD (take (d + w - d) (drop d demands)) (i * 2 + j) 0 ≡ demandsWord demands (linksOf corridor) k i j
-      demand i j h b =
-          let t : d + (i * 2 + j) ≡ 1 + (k * w + (i * 2 + j)) = omega arith in
-          part-at d w demands (i * 2 + j) 0 (omega arith)
-          ∙ ap (λ (n : ℕ). getD demands n 0) t
-          ∙ ap (λ (n : ℕ). getD demands (1 + (k * n + (i * 2 + j))) 0) width
-
       rate : (i j : ℕ) → i ≤ linksOf corridor → j < 2 → getD (take (p + w - p) (drop p words)) (i * 2 + j) 0 ≡ getD words (k * (suc (linksOf corridor) * 2) + (i * 2 + j)) 0
       rate i j h b =
           part-at p w words (i * 2 + j) 0 (omega arith)
@@ -70,36 +104,12 @@ module _ (corridor demands words : List ℕ) (k : ℕ) where
           ∙ ap (λ (n : ℕ). getD words (k * n + (i * 2 + j)) 0) width
 
   module _ (demand rates : List ℕ) (rows : StepRows demand rates) where
-    -- one step's demands say of a node what the whole demands say at step k
-    step-junction : (state : ℕ → NodeState) (i : ℕ) → i ≤ linksOf corridor → junction (stepRoad corridor demand) 0 state i ≡ junction road k state i
-    unfolding junction supply stepRoad roadOf
-    step-junction state i h =
-        λ z.
-        record {
-          link = nodeAt corridor i .link;
-          ramp = nodeAt corridor i .ramp;
-          state = state i;
-          split = rows .split i h z;
-          supply = supply road k state i;
-        }
-
-    step-inflow : (flows : ℕ → Flows) (i : ℕ) → i ≤ linksOf corridor → inflow (stepRoad [] demand) 0 flows i ≡ inflow road k flows i
-    unfolding inflow stepRoad
-    step-inflow flows zero h = refl
-    step-inflow flows (suc j) h = ap (λ (b : ℕ). outflow (flows j) b) (rows .split j (omega arith))
-
-    step-next : (state : ℕ → NodeState) (flows : ℕ → Flows) (i : ℕ) → i ≤ linksOf corridor → next (stepRoad [] demand) 0 state flows i ≡ next road k state flows i
-    unfolding next stepRoad
-    step-next state flows i h =
-        ap (λ (x : ℕ). moved (state i) x (getD demand (i * 2 + 0) 0) (flows i)) (step-inflow flows i h)
-        ∙ ap (λ (x : ℕ). moved (state i) (inflow road k flows i) x (flows i)) (rows .arrivals i h)
-
     -- the flows from the row of state k
     step-flows : (i : ℕ) → i ≤ linksOf corridor → rowFlows corridor demand rates (stateRow corridor demands words k) i ≡ planFlows road plan k (stateAt road plan k) i
     unfolding rowFlows planFlows roadOf stateRow
     step-flows i h =
         ap (λ (x : Junction). flowsWith x (getD rates (i * 2 + 0) 0) (getD rates (i * 2 + 1) 0))
-        (step-junction (stateIn (stateRow corridor demands words k)) i h
+        (step-junction corridor demands k demand (rows .demand-row) (stateIn (stateRow corridor demands words k)) i h
         ∙ junction-same road k (stateIn (stateRow corridor demands words k)) (stateAt road plan k) i (λ j l. row-state (linksOf corridor) (stateAt road plan k) (λ j. noFlow) j l) h)
         ∙ ap (λ (c : ℕ). flowsWith (junction road k (stateAt road plan k) i) c (getD rates (i * 2 + 1) 0)) (rows .rate i h)
         ∙ ap (λ (v : ℕ). flowsWith (junction road k (stateAt road plan k) i) (plan .rate k i) v) (rows .limit i h)
@@ -113,7 +123,7 @@ module _ (corridor demands words : List ℕ) (k : ℕ) where
     next-row-is =
         row-same (linksOf corridor) _ _ _ _
         (λ i h.
-        step-next (stateIn (stepRow corridor demands words k)) (flowsIn (stepRow corridor demands words k)) i h
+        step-next corridor demands k demand (rows .demand-row) [] (stateIn (stepRow corridor demands words k)) (flowsIn (stepRow corridor demands words k)) i h
         ∙ next-same road k (stateIn (stepRow corridor demands words k)) (stateAt road plan k) (flowsIn (stepRow corridor demands words k)) (planFlows road plan k (stateAt road plan k)) i
         (λ j l. row-state (linksOf corridor) (stateAt road plan k) _ j l)
         (λ j l. row-flows (linksOf corridor) (stateAt road plan k) _ j l)
@@ -132,8 +142,8 @@ module _ (corridor demands words : List ℕ) (k : ℕ) where
           jam = omega (arith, run-jam road limits plan k i (omega arith) hi);
           vehicles = omega (arith, fits .vehicles);
           queue = omega (arith, fits .queue);
-          arrivals = omega (arith, rows .arrivals i hi, limits .demand k i hk hi .arrivals);
-          split = omega (arith, rows .split i hi, limits .demand k i hk hi .split);
+          arrivals = omega (arith, rows .demand-row .arrivals i hi, limits .demand k i hk hi .arrivals);
+          split = omega (arith, rows .demand-row .split i hi, limits .demand k i hk hi .split);
           limit = omega (arith, rows .limit i hi, bounded k i hk hi .limit, link-tops road limits i hi .fullSpeed);
         }
 

@@ -3,11 +3,11 @@ use mathlib.Core.Bool.{Bool, true, false}
 use mathlib.Core.List.{List}
 use mathlib.Core.Logic.{_↔_, _≢_}
 use mathlib.Core.Path.{_≡_, refl, sym, ap, _∙_, subst}
-use Prim.Native.Nat.{ℕ, zero, suc}
+use Prim.Native.Nat.{ℕ, zero, suc, _≤_}
 use native.Mathlib.Omega.{arith}
 use Rattle.tables.specs.declared.Answer.{Answer}
 use Rattle.tables.specs.declared.Answer.the-variants.{Accepted, Refused}
-use Rattle.tables.specs.Answer.{numberOf, orElse, refusal, unless, left}
+use Rattle.tables.specs.Answer.{numberOf, rowOf, nodeOf, orElse, refusal, unless, left}
 
 abbrev pub Refuses : Answer → Type 0
 Refuses Accepted = ⊥
@@ -85,3 +85,22 @@ left-refused a b number row node new lent e h = ap (λ (x : Answer). left x new 
 
 pub left-accepted : (a b : Answer) (new lent l : List ℕ) → a ≡ b → a ≡ Accepted → l ≡ new → l ≡ left b new lent
 left-accepted a b new lent l e h w = w ∙ ap (λ (x : Answer). left x new lent) (sym h ∙ e)
+
+-- ---- answers whose number, row and node fit the number that the C host gets
+
+pub record Small (answer : Answer) : Type 0 where
+  pub number : numberOf answer ≤ 255
+  pub row : rowOf answer ≤ 65535
+  pub node : nodeOf answer ≤ 255
+
+pub small-refusal : (x row node : ℕ) → x ≤ 255 → row ≤ 65535 → node ≤ 255 → Small (refusal x row node)
+small-refusal zero row node a b c = record { number = omega arith; row = omega arith; node = omega arith }
+small-refusal (suc x) row node a b c = record { number = a; row = b; node = c }
+
+pub small-orElse : (a b : Answer) → Small a → Small b → Small (orElse a b)
+small-orElse Accepted b h k = k
+small-orElse (Refused number row node) b h k = h
+
+pub small-unless : (t : Bool) (x : ℕ) → x ≤ 255 → unless t x ≤ 255
+small-unless true x h = omega arith
+small-unless false x h = h

@@ -10,7 +10,7 @@ use Rattle.tables.specs.declared.Answer.{Answer}
 use Rattle.tables.specs.declared.Answer.the-variants.{Accepted, Refused}
 use Rattle.tables.specs.Answer.{orElse, refusal}
 use Rattle.tables.specs.First.{first, firstNode, firstPlace}
-use Rattle.tables.proofs.Answers.{Refuses, refuses-is, orElse-accepts, orElse-refuses, orElse-right, orElse-assoc, refusal-accepts, refusal-refuses}
+use Rattle.tables.proofs.Answers.{Refuses, refuses-is, orElse-accepts, orElse-refuses, orElse-right, orElse-assoc, refusal-accepts, refusal-refuses, Small, small-refusal, small-orElse}
 
 -- ---- by one index
 
@@ -176,6 +176,20 @@ firstPlace-refuses rows n fault x k i =
             },
           ),
     )
+
+-- ---- a first fault whose number is small fits the number that the C host gets
+
+pub small-first : (n : ℕ) (answer : ℕ → Answer) → ((i : ℕ) → i < n → Small (answer i)) → Small (first n answer)
+unfolding first
+small-first zero answer h = record { number = omega arith; row = omega arith; node = omega arith }
+small-first (suc n) answer h = small-orElse (first n answer) (answer n) (small-first n answer (λ i l. h i (omega arith))) (h n (omega arith))
+
+pub small-node : (n row : ℕ) (fault : ℕ → ℕ) → n ≤ 256 → row ≤ 65535 → ((i : ℕ) → fault i ≤ 255) → Small (firstNode n row fault)
+small-node n row fault few b h = small-first n (λ i. refusal (fault i) row i) (λ i l. small-refusal (fault i) row i (h i) b (omega arith))
+
+pub small-place : (rows n : ℕ) (fault : ℕ → ℕ → ℕ) → rows ≤ 65536 → n ≤ 256 → ((k i : ℕ) → fault k i ≤ 255) → Small (firstPlace rows n fault)
+small-place rows n fault short few h =
+    small-first rows (λ k. firstNode n k (fault k)) (λ k l. small-node n k (fault k) few (omega arith) (λ i. h k i))
 
 -- ---- as a loop's invariant: the first i of n answers accept
 

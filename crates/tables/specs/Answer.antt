@@ -2,7 +2,7 @@
 -- refused call leaves of a lent list.
 use mathlib.Core.Bool.{Bool, true, false}
 use mathlib.Core.List.{List}
-use Prim.Native.Nat.{ℕ, zero, suc}
+use Prim.Native.Nat.{ℕ, zero, suc, _+_, _*_}
 use Rattle.tables.specs.declared.Answer.{Answer}
 use Rattle.tables.specs.declared.Answer.the-variants.{Accepted, Refused}
 
@@ -17,6 +17,10 @@ rowOf (Refused number row node) = row
 abbrev pub nodeOf : Answer → ℕ
 nodeOf Accepted = 0
 nodeOf (Refused number row node) = node
+
+-- the one number that the C host gets, 0 for accepted
+abbrev pub hostNumber : Answer → ℕ
+hostNumber answer = rowOf answer * 65536 + nodeOf answer * 256 + numberOf answer
 
 -- the first answer where it refuses, else the second
 abbrev pub orElse : Answer → Answer → Answer

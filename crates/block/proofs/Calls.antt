@@ -1,0 +1,246 @@
+-- What a reader and a writer answer: each case as a branch of the code meets it, and what an accepted call keeps.
+use mathlib.Core.Bool.{Bool, true, false, _&&_}
+use mathlib.Core.List.{List}
+use mathlib.Core.Logic.{_↔_, _≢_}
+use mathlib.Core.Path.{_≡_, refl, sym, ap, _∙_}
+use Prim.Native.Nat.{ℕ, suc, _+_, _*_, _≤_}
+use native.Mathlib.Nat.{mul-le-mul}
+use native.Mathlib.Omega.{arith}
+use borrow.Author.Tests.{eq-eqb, ne-eqb, eqb-true, leb-true}
+use lib.Dec.{eqb, leb}
+use lib.ListN.{length, getD}
+use Rattle.tables.specs.declared.Answer.{Answer}
+use Rattle.tables.specs.declared.Answer.the-variants.{Accepted, Refused}
+use Rattle.tables.specs.Answer.{orElse}
+use Rattle.tables.proofs.Answers.{Refuses, orElse-accepts, orElse-refuses, refusal-unless, left-refused, left-accepted}
+use Rattle.lists.specs.Refusals.{within, sized}
+use Rattle.block.specs.declared.Kind.{Kind}
+use Rattle.block.specs.declared.Kind.the-variants.{Corridor, Demands, Record, Plan}
+use Rattle.payload.specs.Word.{Words}
+use Rattle.payload.specs.File.{blocksFor, payloadWord, payloadPart, payloadOf, putPayload, fileOf}
+use Rattle.payload.specs.Reading.{payloadAnswer}
+use Rattle.block.specs.Kinds.{Told, kindNumber, listLength, ownAgrees}
+use Rattle.block.specs.Calls.{toldFits, fileAnswer, readAnswer, wordsRead, writeAnswer, fileWritten}
+use Rattle.payload.proofs.Payloads.{payload-all, payload-put-all, put-length-same}
+use Rattle.payload.proofs.Refusals.{payload-kept}
+
+-- ---- tests
+
+pub sized-holds : (t : Bool) → (sized t ≡ Accepted) ↔ (t ≡ true)
+sized-holds t = refusal-unless t 1 0 0 (omega arith)
+
+pub and-true : (s t : Bool) → (s && t ≡ true) ↔ ((s ≡ true) × (t ≡ true))
+and-true true t = (λ e. (refl, e), λ h. h .1)
+and-true false t = (λ e. (e, cc), λ h. h .0)
+
+-- b is whether N and K are good as a call told it
+pub told-is : (n k : ℕ) (b : Bool) → b ≡ toldFits n k → b ≡ true → Told n k
+unfolding toldFits
+told-is n k b e h =
+    let p = and-true (within 1 64 n) (within 1 1440 k) .0 (sym e ∙ h) in
+    let links = and-true (leb 1 n) (leb n 64) .0 (p .0) in
+    let steps = and-true (leb 1 k) (leb k 1440) .0 (p .1) in
+    record {
+      linksLow = leb-true 1 n (links .0);
+      linksHigh = leb-true n 64 (links .1);
+      stepsLow = leb-true 1 k (steps .0);
+      stepsHigh = leb-true k 1440 (steps .1);
+    }
+
+-- ---- lengths
+
+-- rows of nodes of c words
+pub words-low : (rows nodes c : ℕ) → 1 ≤ rows → 1 ≤ nodes → 1 ≤ c → 1 ≤ rows * (nodes * c)
+words-low rows nodes c a b h = omega (arith, mul-le-mul a (mul-le-mul b h))
+
+pub words-high : (rows nodes c d : ℕ) → rows ≤ 1441 → nodes ≤ 65 → c ≤ d → rows * (nodes * c) ≤ 1441 * (65 * d)
+words-high rows nodes c d a b h = mul-le-mul a (mul-le-mul b h)
+
+pub length-low : (kind : Kind) (n k : ℕ) → Told n k → 1 ≤ listLength kind n k
+unfolding listLength
+length-low Corridor n k t = omega arith
+length-low Demands n k t = omega arith
+length-low Record n k t = omega arith
+length-low Plan n k t = words-low k (suc n) 2 (t .stepsLow) (omega arith) (omega arith)
+
+pub length-high : (kind : Kind) (n k : ℕ) → Told n k → listLength kind n k ≤ 374662
+unfolding listLength
+length-high Corridor n k t = omega arith
+length-high Demands n k t = omega (arith, words-high k (suc n) 2 2 (omega arith) (omega arith) (omega arith))
+length-high Record n k t = omega (arith, words-high (suc k) (suc n) 4 4 (omega arith) (omega arith) (omega arith))
+length-high Plan n k t = omega (arith, words-high k (suc n) 2 2 (omega arith) (omega arith) (omega arith))
+
+-- ---- reading
+
+module _ (kind : Kind) (n k : ℕ) (file : List ℕ) (number m : ℕ) (a : Answer) (u : number ≡ kindNumber kind) (v : m ≡ listLength kind n k) (p : a ≡ payloadAnswer number m file) where
+  file-rest : fileAnswer kind n k file ≡ orElse a (sized (ownAgrees kind n k (payloadWord file 0)))
+  unfolding fileAnswer
+  file-rest = rw (← u, ← v, p)
+
+  pub file-wrong : Refuses a → a ≡ fileAnswer kind n k file
+  file-wrong r = sym (file-rest ∙ orElse-refuses a _ r)
+
+  pub file-room : a ≡ Accepted → 1 ≤ m → 512 ≤ length file
+  file-room h l = let r : length file ≡ blocksFor m * 512 = payload-kept number m file .0 (sym p ∙ h) .room in omega arith
+
+  module _ (h : a ≡ Accepted) (w : ℕ) (e : w ≡ payloadWord file 0) (b : Bool) (q : b ≡ ownAgrees kind n k w) where
+    own : fileAnswer kind n k file ≡ sized b
+    own = file-rest ∙ rw (h, ← e, ← q)
+
+    pub own-agrees : b ≡ true → Accepted ≡ fileAnswer kind n k file
+    own-agrees t = sym (own ∙ ap sized t)
+
+    pub own-differs : b ≡ false → Refused 1 0 0 ≡ fileAnswer kind n k file
+    own-differs t = sym (own ∙ ap sized t)
+
+module _ (kind : Kind) (n k : ℕ) (file : List ℕ) (room : ℕ) (b : Bool) (q : b ≡ toldFits n k) where
+  pub read-told-wrong : b ≡ false → Refused 1 0 0 ≡ readAnswer kind n k file room
+  unfolding readAnswer
+  read-told-wrong h = rw (← q, h)
+
+  module _ (h : b ≡ true) (m : ℕ) (v : m ≡ listLength kind n k) where
+    pub read-room-wrong : room ≢ m → Refused 1 0 0 ≡ readAnswer kind n k file room
+    unfolding readAnswer
+    read-room-wrong z = rw (← q, h, ← v, ne-eqb room m z)
+
+    pub read-file : room ≡ m → (a : Answer) → a ≡ fileAnswer kind n k file → a ≡ readAnswer kind n k file room
+    unfolding readAnswer
+    read-file z a p = p ∙ rw (← q, h, ← v, eq-eqb room m z)
+
+-- what an accepted file keeps
+pub record FileKept (kind : Kind) (n k : ℕ) (file : List ℕ) : Type 0 where
+  pub payload : payloadAnswer (kindNumber kind) (listLength kind n k) file ≡ Accepted
+  pub own : ownAgrees kind n k (payloadWord file 0) ≡ true
+
+pub file-kept : (kind : Kind) (n k : ℕ) (file : List ℕ) → (fileAnswer kind n k file ≡ Accepted) ↔ FileKept kind n k file
+unfolding fileAnswer
+file-kept kind n k file =
+    let agrees : Bool = ownAgrees kind n k (payloadWord file 0) in
+    let p = orElse-accepts (payloadAnswer (kindNumber kind) (listLength kind n k) file) (sized agrees) in (
+      λ e. record { payload = p .0 e .0; own = sized-holds agrees .0 (p .0 e .1) },
+      λ h. p .1 (h .payload, sized-holds agrees .1 (h .own)),
+    )
+
+-- a is the answer as a call gave it
+pub file-bytes : (kind : Kind) (n k : ℕ) (file : List ℕ) (a : Answer) → a ≡ fileAnswer kind n k file → a ≡ Accepted → length file ≡ blocksFor (listLength kind n k) * 512
+file-bytes kind n k file a e h = payload-kept _ _ file .0 (file-kept kind n k file .0 (sym e ∙ h) .payload) .room
+
+-- what an accepted call keeps
+pub record ReadKept (kind : Kind) (n k : ℕ) (file : List ℕ) (room : ℕ) : Type 0 where
+  pub told : toldFits n k ≡ true
+  pub fits : room ≡ listLength kind n k
+  pub answer : fileAnswer kind n k file ≡ Accepted
+
+pub read-kept : (kind : Kind) (n k : ℕ) (file : List ℕ) (room : ℕ) → (readAnswer kind n k file room ≡ Accepted) ↔ ReadKept kind n k file room
+unfolding readAnswer
+read-kept kind n k file room =
+    let fits : Bool = eqb room (listLength kind n k) in
+    let o = orElse-accepts (sized (toldFits n k && fits)) (fileAnswer kind n k file) in
+    let s = sized-holds (toldFits n k && fits) in
+    let a = and-true (toldFits n k) fits in (
+      λ e.
+          let t = a .0 (s .0 (o .0 e .0)) in
+          record { told = t .0; fits = eqb-true _ _ (t .1); answer = o .0 e .1 },
+      λ h. o .1 (s .1 (a .1 (h .told, eq-eqb _ _ (h .fits))), h .answer),
+    )
+
+module _ (kind : Kind) (n k : ℕ) (file lent : List ℕ) (a : Answer) (e : a ≡ readAnswer kind n k file (length lent)) where
+  pub read-left : (number row node : ℕ) → a ≡ Refused number row node → lent ≡ wordsRead kind n k file lent
+  unfolding wordsRead
+  read-left number row node h = left-refused a _ number row node _ lent e h
+
+  module _ (h : a ≡ Accepted) where
+    pub read-room : blocksFor (0 + length lent) * 512 ≤ length file
+    read-room =
+        let p = read-kept kind n k file (length lent) .0 (sym e ∙ h) in
+        let r : length lent ≡ listLength kind n k = p .fits in
+        let f : length file ≡ blocksFor (listLength kind n k) * 512 = file-bytes kind n k file _ refl (p .answer) in
+        omega arith
+
+    pub read-words : (l : List ℕ) → l ≡ payloadPart 0 (length lent) file → l ≡ wordsRead kind n k file lent
+    unfolding wordsRead
+    read-words l u =
+        left-accepted a _ _ lent l e h
+        (u ∙ payload-all (length lent) file ∙ ap (λ (m : ℕ). payloadOf m file) (read-kept kind n k file (length lent) .0 (sym e ∙ h) .fits))
+
+-- ---- writing
+
+module _ (kind : Kind) (n k : ℕ) (words : List ℕ) (room : ℕ) (b : Bool) (q : b ≡ toldFits n k) where
+  pub write-told-wrong : b ≡ false → Refused 1 0 0 ≡ writeAnswer kind n k words room
+  unfolding writeAnswer
+  write-told-wrong h = rw (← q, h)
+
+  module _ (h : b ≡ true) (m : ℕ) (v : m ≡ listLength kind n k) (blocks : ℕ) (r : blocks ≡ blocksFor m) where
+    pub write-room-wrong : room ≢ blocks * 512 → Refused 1 0 0 ≡ writeAnswer kind n k words room
+    unfolding writeAnswer
+    write-room-wrong z = rw (← q, h, ← v, ← r, ne-eqb room (blocks * 512) z)
+
+    module _ (z : room ≡ blocks * 512) (f : Bool) (e : f ≡ (eqb (length words) m && ownAgrees kind n k (getD words 0 0))) where
+      list-rest : writeAnswer kind n k words room ≡ sized f
+      unfolding writeAnswer
+      list-rest = rw (← q, h, ← v, ← r, eq-eqb room (blocks * 512) z, e)
+
+      pub write-list-wrong : f ≡ false → Refused 1 0 0 ≡ writeAnswer kind n k words room
+      write-list-wrong t = sym (list-rest ∙ ap sized t)
+
+      pub write-fits : f ≡ true → Accepted ≡ writeAnswer kind n k words room
+      write-fits t = sym (list-rest ∙ ap sized t)
+
+-- what an accepted call keeps
+pub record WriteKept (kind : Kind) (n k : ℕ) (words : List ℕ) (room : ℕ) : Type 0 where
+  pub told : toldFits n k ≡ true
+  pub fits : room ≡ blocksFor (listLength kind n k) * 512
+  pub list : length words ≡ listLength kind n k
+  pub own : ownAgrees kind n k (getD words 0 0) ≡ true
+
+pub write-kept : (kind : Kind) (n k : ℕ) (words : List ℕ) (room : ℕ) → (writeAnswer kind n k words room ≡ Accepted) ↔ WriteKept kind n k words room
+unfolding writeAnswer
+write-kept kind n k words room =
+    let fits : Bool = eqb room (blocksFor (listLength kind n k) * 512) in
+    let list : Bool = eqb (length words) (listLength kind n k) in
+    let agrees : Bool = ownAgrees kind n k (getD words 0 0) in
+    let s = sized-holds (toldFits n k && (fits && (list && agrees))) in
+    let a = and-true (toldFits n k) (fits && (list && agrees)) in
+    let b = and-true fits (list && agrees) in
+    let c = and-true list agrees in (
+      λ e.
+          let p = a .0 (s .0 e) in
+          let q = b .0 (p .1) in
+          let r = c .0 (q .1) in
+          record { told = p .0; fits = eqb-true _ _ (q .0); list = eqb-true _ _ (r .0); own = r .1 },
+      λ h. s .1 (a .1 (h .told, b .1 (eq-eqb _ _ (h .fits), c .1 (eq-eqb _ _ (h .list), h .own)))),
+    )
+
+module _ (kind : Kind) (n k : ℕ) (words lent : List ℕ) (a : Answer) (e : a ≡ writeAnswer kind n k words (length lent)) where
+  pub write-left : (number row node : ℕ) → a ≡ Refused number row node → lent ≡ fileWritten kind n k words lent
+  unfolding fileWritten
+  write-left number row node h = left-refused a _ number row node _ lent e h
+
+  module _ (h : a ≡ Accepted) where
+    write-room : length lent ≡ blocksFor (length words) * 512
+    write-room =
+        let p = write-kept kind n k words (length lent) .0 (sym e ∙ h) in
+        p .fits ∙ ap (λ (m : ℕ). blocksFor m * 512) (sym (p .list))
+
+    pub put-fits : blocksFor (0 + length words) * 512 ≤ length lent
+    put-fits =
+        let r : length lent ≡ blocksFor (length words) * 512 = write-room in
+        omega arith
+
+    pub write-words : length words ≤ 4294967295
+    write-words =
+        let p = write-kept kind n k words (length lent) .0 (sym e ∙ h) in
+        let l : length words ≡ listLength kind n k = p .list in
+        omega (arith, length-high kind n k (told-is n k (toldFits n k) refl (p .told)))
+
+    module _ (x : List ℕ) (u : x ≡ putPayload lent 0 words) where
+      pub put-room : length x ≡ blocksFor (length words) * 512
+      put-room = ap length u ∙ put-length-same lent 0 words ∙ write-room
+
+      pub write-file : Words words → (number : ℕ) → number ≡ kindNumber kind → (l : List ℕ) → l ≡ fileOf number (payloadOf (length words) x)
+          → l ≡ fileWritten kind n k words lent
+      unfolding fileWritten
+      write-file w number v l s =
+          let r : length lent ≡ blocksFor (length words) * 512 = write-room in
+          let y : payloadOf (length words) x ≡ words = ap (payloadOf (length words)) u ∙ payload-put-all lent words w (omega arith) in
+          left-accepted a _ _ lent l e h (s ∙ rw (v, y))

@@ -1,0 +1,3 @@
+// What the readers and the writers of all kinds share.
+pub mod calls;
+pub mod kinds;

@@ -1,0 +1,110 @@
+-- Laws of the normal form's answers and lists, as its code finds them: what the simulator refuses, then what the converter does.
+use Prim.Native.Nat.{ℕ}
+use mathlib.Core.Bool.{Bool, true, false, _&&_, true≢false}
+use mathlib.Core.List.{List}
+use mathlib.Core.Path.{_≡_, refl, sym, ap, ap₂, _∙_}
+use borrow.Author.Tests.{eq-eqb}
+use lib.Dec.{eqb}
+use lib.ListN.{length}
+use Rattle.tables.specs.declared.Answer.{Answer}
+use Rattle.tables.specs.declared.Answer.the-variants.{Accepted, Refused}
+use Rattle.tables.specs.Answer.{orElse, left}
+use Rattle.tables.proofs.Answers.{Refuses, orElse-accepts, orElse-refuses}
+use Rattle.lists.specs.Words.{linksOf, stepsOf, roadOf, planOf, planLength, recordLength}
+use Rattle.lists.specs.Refusals.{sizes, sized, ranges, bounds}
+use Rattle.lists.proofs.Words.{record-length}
+use Rattle.simulate.specs.Simulate.{simulateSizes, simulateAnswer, simulated}
+use Rattle.simulate.proofs.Answers.{lengths, accepted-sizes}
+use Rattle.convert.specs.Refusals.{judged}
+use Rattle.convert.specs.Convert.{converted, normalForm, convertAnswer, normalRefusal, normalAnswer}
+
+simulated-fits : (corridor demands plan : List ℕ) → length (simulated corridor demands plan) ≡ recordLength (linksOf corridor) (stepsOf demands)
+unfolding simulated roadOf
+simulated-fits corridor demands plan = record-length _ _
+
+-- a test and then another, as the code has them
+pub first-fails : (t a b : Bool) → t ≡ a → t ≡ false → false ≡ (a && b)
+first-fails t a b e h = ap (λ (x : Bool). x && b) (sym h ∙ e)
+
+pub first-holds : (t a b r : Bool) → t ≡ a → t ≡ true → r ≡ b → r ≡ (a && b)
+first-holds t a b r e h q = q ∙ ap (λ (x : Bool). x && b) (sym h ∙ e)
+
+-- the last of four tests fails
+last-fails : (s p w r : Bool) → (s && r) ≡ false → (s && (p && (w && r))) ≡ false
+last-fails false p w r e = refl
+last-fails true false w r e = refl
+last-fails true true false r e = refl
+last-fails true true true r e = e
+
+-- the last of four tests holds, and with it the first
+last-holds : (s p w r : Bool) → (s && r) ≡ true → (s && (p && (w && r))) ≡ (s && (p && w))
+last-holds false p w r e = refl
+last-holds true false w r e = refl
+last-holds true true false r e = refl
+last-holds true true true r e = e
+
+-- past the simulator the work record is the plan's
+pub work-is : (corridor demands plan : List ℕ) (work : ℕ) (a : Answer) (lent after : List ℕ) → a ≡ simulateAnswer corridor demands plan work → a ≡ Accepted
+    → after ≡ left (simulateAnswer corridor demands plan work) (simulated corridor demands plan) lent → after ≡ simulated corridor demands plan
+work-is corridor demands plan work a lent after e h q = q ∙ ap (λ (x : Answer). left x (simulated corridor demands plan) lent) (sym e ∙ h)
+
+module _ (corridor demands plan : List ℕ) (work room : ℕ) where
+  -- N and K in range, and the lent plan of the right length
+  abbrev pub normalTest : Bool
+  normalTest = sizes corridor demands && eqb room (planLength (linksOf corridor) (stepsOf demands))
+
+  pub normal-unsized : (t : Bool) → t ≡ normalTest → t ≡ false → Refused 1 0 0 ≡ normalRefusal corridor demands plan work room
+  unfolding normalRefusal
+  normal-unsized t e h =
+      let q = last-fails (sizes corridor demands) (eqb (length plan) (planLength (linksOf corridor) (stepsOf demands))) (eqb work (recordLength (linksOf corridor) (stepsOf demands)))
+      (eqb room (planLength (linksOf corridor) (stepsOf demands))) (sym e ∙ h) in
+      rw q
+
+  pub normal-sized : (t : Bool) → t ≡ normalTest → t ≡ true → simulateAnswer corridor demands plan work ≡ normalRefusal corridor demands plan work room
+  unfolding normalRefusal simulateAnswer simulateSizes
+  normal-sized t e h =
+      let q = last-holds (sizes corridor demands) (eqb (length plan) (planLength (linksOf corridor) (stepsOf demands))) (eqb work (recordLength (linksOf corridor) (stepsOf demands)))
+      (eqb room (planLength (linksOf corridor) (stepsOf demands))) (sym e ∙ h) in
+      rw q
+
+  pub normal-stops : (a : Answer) → a ≡ normalRefusal corridor demands plan work room → Refuses a → a ≡ normalAnswer corridor demands plan work room
+  unfolding normalAnswer
+  normal-stops a e r = rw (← e) (sym (orElse-refuses a _ r))
+
+  -- past the simulator the converter's answer is the normal form's
+  pub normal-goes-on : (t : Bool) → t ≡ normalTest → t ≡ true → simulateAnswer corridor demands plan work ≡ Accepted
+      → convertAnswer corridor demands (simulated corridor demands plan) room ≡ normalAnswer corridor demands plan work room
+  unfolding normalAnswer convertAnswer simulateAnswer simulated
+  normal-goes-on t e h a =
+      let l = accepted-sizes corridor demands plan work a in
+      let road-right : ranges (roadOf corridor demands) ≡ Accepted =
+      orElse-accepts (ranges (roadOf corridor demands)) (bounds (roadOf corridor demands) (planOf (roadOf corridor demands) plan)) .0
+      (orElse-accepts (sized (simulateSizes corridor demands plan work)) _ .0 a .1) .0 in
+      let refusal-none : normalRefusal corridor demands plan work room ≡ Accepted = sym (normal-sized t e h) ∙ a in
+      let room-right : eqb room (planLength (linksOf corridor) (stepsOf demands)) ≡ true = second (sizes corridor demands) (eqb room (planLength (linksOf corridor) (stepsOf demands))) (sym e ∙ h) in
+      let record-right : eqb (length (simulated corridor demands plan)) (recordLength (linksOf corridor) (stepsOf demands)) ≡ true =
+      eq-eqb (length (simulated corridor demands plan)) (recordLength (linksOf corridor) (stepsOf demands)) (simulated-fits corridor demands plan) in
+      simp (refusal-none, road-right, l .listed, room-right, record-right)
+    where
+      second : (a b : Bool) → (a && b) ≡ true → b ≡ true
+      second true b q = q
+      second false b q = absurd (true≢false (sym q))
+
+  -- ---- the lists at exit
+
+  -- the work record, as the simulator left it
+  pub work-left : (t : Bool) (lent after : List ℕ) → t ≡ normalTest → t ≡ true → after ≡ left (simulateAnswer corridor demands plan work) (simulated corridor demands plan) lent
+      → after ≡ left (normalRefusal corridor demands plan work room) (simulated corridor demands plan) lent
+  work-left t lent after e h q = q ∙ ap (λ (x : Answer). left x (simulated corridor demands plan) lent) (normal-sized t e h)
+
+  module _ (t : Bool) (e : t ≡ normalTest) (h : t ≡ true) (accepted : simulateAnswer corridor demands plan work ≡ Accepted) (words : List ℕ) (w : words ≡ simulated corridor demands plan) where
+    pub converter-answers : (b : Answer) → b ≡ convertAnswer corridor demands words room → b ≡ normalAnswer corridor demands plan work room
+    converter-answers b q = q ∙ ap (λ (x : List ℕ). convertAnswer corridor demands x room) w ∙ normal-goes-on t e h accepted
+
+    pub converter-writes : (lent after : List ℕ) → after ≡ left (convertAnswer corridor demands words room) (converted corridor demands words) lent
+        → after ≡ left (normalAnswer corridor demands plan work room) (normalForm corridor demands plan) lent
+    unfolding normalForm
+    converter-writes lent after q =
+        q
+        ∙ ap (λ (x : List ℕ). left (convertAnswer corridor demands x room) (converted corridor demands x) lent) w
+        ∙ ap (λ (x : Answer). left x (converted corridor demands (simulated corridor demands plan)) lent) (normal-goes-on t e h accepted)

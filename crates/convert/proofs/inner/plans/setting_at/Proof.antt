@@ -1,0 +1,30 @@
+-- By what the junction and the flows that are read ensure.
+use mathlib.Core.Path.{ap₂, _∙_}
+use borrow.Author.Needs.{needs}
+use Rattle.settings.specs.Setting.{settingFor}
+use Rattle.convert.specs.Rows.{settingIn}
+use Rattle.convert.proofs.Steps.{jam-of, split-kept, sent-kept}
+use Rattle.convert.proofs.inner.plans.setting_at.Statement.{statement}
+use Rattle.convert.proofs.inner.plans.setting_at.Tie as tie
+
+junction-at-requires : tie.Need-junction-at-requires
+junction-at-requires c κs =
+    let k = c .before .before .before in
+    (k .pre .0 .0, (k .pre .0 .1, (k .pre .0 .2, (jam-of _ _ _ _ (k .pre .1 .0), k .pre .1 .1 .1))))
+
+setting-for-requires : tie.Need-setting-for-requires
+setting-for-requires c κs =
+    let j = c .before in
+    let k = j .before .before .before .before in
+    let kept = k .pre .1 .0 in
+    let here = k .pre .1 .1 .1 in (
+      split-kept _ _ _ _ kept _ here _ (j .junction-at .ensures),
+      sent-kept _ _ _ _ kept _ here _ (j .junction-at .ensures) _ (c .flows-at .ensures) (k .pre .1 .1 .0 _ here),
+    )
+
+returns : tie.Need-returns
+unfolding settingIn
+returns c = c .setting-for .ensures ∙ ap₂ settingFor (c .before .before .junction-at .ensures) (c .before .flows-at .ensures)
+
+pub setting-at-spec : {M : Type 1} → statement M
+setting-at-spec = tie.close (tie.spec junction-at-requires (λ c κs. search needs) setting-for-requires returns)

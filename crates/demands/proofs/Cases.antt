@@ -1,0 +1,36 @@
+-- The worked cases, one proved list: each holds by computation.
+use mathlib.Core.Path.{refl}
+use Rattle.tables.specs.First.{first}
+use Rattle.tables.specs.Grid.{cell, grid}
+use Rattle.tables.specs.Least.{leastFrom}
+use Rattle.tables.specs.Sum.{sum}
+use Rattle.tables.specs.Tabulate.{tabulate}
+use Rattle.road.specs.Step.{sending, exit, through, offer, receiving, passed, merge, flowsWith, outflow, moved}
+use Rattle.road.specs.Run.{supply, junction, inflow, next, cost}
+use Rattle.settings.specs.Rate.{fullFlows, gives, rateFor}
+use Rattle.settings.specs.Setting.{heldLimit, settingFor}
+use Rattle.settings.proofs.Cases.{cases as node-cases}
+use Rattle.lists.specs.Words.{linksOf, nodeAt, stepsOf, roadOf, planOf, planWord, planWords, traceOf}
+use Rattle.lists.specs.Refusals.{sizes, linkFault, fresh, rampFault, startFault, demandFault, linkRefusal, rampRefusal, startRefusal, demandRefusal, ranges}
+use Rattle.simulate.proofs.Case.{case-1}
+use Rattle.convert.specs.Refusals.{fixedFault, stepFault, costFault, judged}
+use Rattle.convert.specs.Convert.{settingAt, planFor, converted, convertAnswer}
+use Rattle.demands.specs.Cases.{Cases}
+
+pub cases : Cases
+unfolding first cell grid leastFrom sum tabulate sending exit through offer receiving passed merge flowsWith outflow moved supply junction inflow next cost fullFlows gives rateFor heldLimit settingFor linksOf nodeAt stepsOf roadOf planOf planWord planWords traceOf sizes linkFault fresh rampFault startFault demandFault linkRefusal rampRefusal startRefusal demandRefusal ranges fixedFault stepFault costFault judged settingAt planFor converted convertAnswer
+cases =
+    record {
+      case-1 = case-1 .simulates;
+      case-2 = record { accepted = refl; plans = refl };
+      case-2-below = node-cases .case-2-below;
+      case-3 = record { accepted = refl; plans = refl };
+      case-4 = record { accepted = refl; plans = refl };
+      case-5 = refl;
+      case-6 = record { accepted = refl; plans = refl };
+      case-7 = record { accepted = refl; plans = refl };
+      case-8 = record { accepted = refl; plans = refl };
+      case-9 = node-cases .case-9;
+      case-9-full = node-cases .case-9-full;
+      case-10 = node-cases .case-10;
+    }

@@ -1,0 +1,180 @@
+-- Every answer of the calls on word lists fits one number: N and K are small wherever a place is named.
+use Prim.Native.Nat.{ℕ, zero, suc, _+_, _/_, _%_, _≤_, min}
+use mathlib.Core.Bool.{Bool, true, false, _&&_}
+use mathlib.Core.List.{List}
+use mathlib.Core.Path.{_≡_, refl, sym, subst}
+use native.Mathlib.Omega.{arith}
+use lib.Dec.{leb, eqb}
+use lib.ListN.{length, getD}
+use Rattle.tables.specs.declared.Answer.{Answer}
+use Rattle.tables.specs.Answer.{orElse, unless}
+use Rattle.tables.specs.First.{firstPlace}
+use Rattle.tables.proofs.Answers.{Small, small-refusal, small-orElse, small-unless, orElse-assoc}
+use Rattle.tables.proofs.First.{small-node, small-place}
+use Rattle.road.specs.Corridor.{Link, Ramp, NodeState, Node, Road, Plan, Flows, nodes}
+use Rattle.road.specs.Step.{Junction, sending, outflow}
+use Rattle.road.specs.Run.{junction, next, cost}
+use Rattle.lists.specs.Words.{linksOf, stepsOf, roadOf, planOf, traceOf, traceLength, planLength, recordLength}
+use Rattle.lists.specs.Refusals.{within, implies, sized, linkFault, fresh, rampFault, startFault, demandFault, planFault, linkRefusal, rampRefusal, startRefusal, demandRefusal, ranges, bounds, sizes}
+use Rattle.lists.proofs.Limits.{sizes-iff}
+use Rattle.simulate.specs.Simulate.{simulateSizes, simulateAnswer, simulated}
+use Rattle.convert.specs.Convert.{checkAnswer, convertAnswer, normalRefusal, normalAnswer}
+use Rattle.convert.specs.Refusals.{sameState, unlessThen, fixedFault, stepFault, costFault, fixedAt, stepAt, judged}
+
+-- ---- each fault's number is small
+
+link-small : (i : ℕ) (link : Link) → linkFault i link ≤ 255
+unfolding linkFault
+link-small zero link =
+    small-unless (eqb (link .capacity) 0 && (eqb (link .fullSpeed) 0 && (eqb (link .waveSpeed) 0 && eqb (link .jam) 0))) 2 (omega arith)
+link-small (suc i) link =
+    small-unless (leb (link .capacity) 65536 && (within 1 65536 (link .fullSpeed) && (within 1 65536 (link .waveSpeed) && within 1 65536 (link .jam)))) 2 (omega arith)
+
+ramp-small : (last : Bool) (identifier : ℕ) (ramp : Ramp) (isFresh : Bool) → rampFault last identifier ramp isFresh ≤ 255
+unfolding rampFault
+ramp-small last identifier ramp isFresh =
+    small-unless
+    (leb 1 identifier
+    && (isFresh
+    && (leb (ramp .capacity) 65536
+    && (leb (ramp .queueLimit) 134217728 && implies last (eqb (ramp .capacity) 0 && eqb (ramp .queueLimit) 0)))))
+    3 (omega arith)
+
+start-small : (node : Node) → startFault node ≤ 255
+unfolding startFault
+start-small node =
+    small-unless (leb (node .start .vehicles) (node .link .jam) && leb (node .start .queue) (node .ramp .queueLimit)) 4 (omega arith)
+
+demand-small : (links i arrivals split : ℕ) → demandFault links i arrivals split ≤ 255
+unfolding demandFault
+demand-small links i arrivals split =
+    small-unless
+    (leb arrivals 65536 && (leb split 65536 && (implies (eqb i 0) (eqb split 0) && implies (eqb i links) (eqb split 0 && eqb arrivals 0))))
+    5 (omega arith)
+
+plan-small : (link : Link) (ramp : Ramp) (rate limit : ℕ) → planFault link ramp rate limit ≤ 255
+unfolding planFault
+plan-small link ramp rate limit = small-unless (leb rate (ramp .capacity) && leb limit (link .fullSpeed)) 6 (omega arith)
+
+fixed-small : (road : Road) (k i : ℕ) (state : NodeState) (flows : Flows) → fixedFault road k i state flows ≤ 255
+unfolding fixedFault
+fixed-small road k i state flows =
+    small-unless
+    (implies (eqb k 0) (sameState state (road .node i .start))
+    && (implies (eqb k (road .steps)) (eqb (flows .main) 0 && eqb (flows .ramp) 0)
+    && (implies (eqb i 0) (eqb (state .vehicles) 0 && eqb (flows .main) 0)
+    && implies (eqb i (road .links)) (eqb (state .queue) 0 && eqb (flows .ramp) 0))))
+    7 (omega arith)
+
+then-small : (t : Bool) (x rest : ℕ) → x ≤ 255 → rest ≤ 255 → unlessThen t x rest ≤ 255
+then-small true x rest h k = k
+then-small false x rest h k = h
+
+-- five tests in turn
+steps-small : (a b c d e : Bool) → unlessThen a 8 (unlessThen b 9 (unlessThen c 10 (unlessThen d 11 (unless e 12)))) ≤ 255
+steps-small a b c d e =
+    then-small a 8 _ (omega arith)
+    (then-small b 9 _ (omega arith) (then-small c 10 _ (omega arith) (then-small d 11 _ (omega arith) (small-unless e 12 (omega arith)))))
+
+step-small : (junction : Junction) (flows : Flows) (moved after : NodeState) → stepFault junction flows moved after ≤ 255
+unfolding stepFault
+step-small junction flows moved after =
+    steps-small
+    (leb (flows .main) (sending (junction .link) (junction .state .vehicles) (junction .link .fullSpeed)))
+    (leb (outflow flows (junction .split)) (junction .supply))
+    (leb (flows .ramp) (min (junction .state .queue) (junction .ramp .capacity)))
+    (sameState after moved)
+    (leb (after .queue) (junction .ramp .queueLimit))
+
+cost-small : (road : Road) (words : List ℕ) → costFault road words ≤ 255
+unfolding costFault
+cost-small road words =
+    small-unless
+    (eqb (getD words (traceLength (road .links) (road .steps)) 0) (cost road (traceOf road words) % 4294967296)
+    && eqb (getD words (traceLength (road .links) (road .steps) + 1) 0) (cost road (traceOf road words) / 4294967296))
+    13 (omega arith)
+
+module _ (road : Road) (few : road .links ≤ 64) (short : road .steps ≤ 1440) where
+  pub ranges-small : Small (ranges road)
+  unfolding ranges linkRefusal rampRefusal startRefusal demandRefusal
+  ranges-small =
+      small-orElse (linkRefusal road) _ (small-node (nodes road) 0 _ (omega arith) (omega arith) (λ i. link-small i (road .node i .link)))
+      (small-orElse (rampRefusal road) _ (small-node (nodes road) 0 _ (omega arith) (omega arith) (λ i. ramp-small (eqb i (road .links)) (road .node i .identifier) (road .node i .ramp) (fresh (λ j. road .node j .identifier) i)))
+      (small-orElse (startRefusal road) _ (small-node (nodes road) 0 _ (omega arith) (omega arith) (λ i. start-small (road .node i)))
+      (small-place (road .steps) (nodes road) _ (omega arith) (omega arith) (λ k i. demand-small (road .links) i (road .arrivals k i) (road .split k i)))))
+
+  pub bounds-small : (plan : Plan) → Small (bounds road plan)
+  unfolding bounds
+  bounds-small plan =
+      small-place (road .steps) (nodes road) _ (omega arith) (omega arith) (λ k i. plan-small (road .node i .link) (road .node i .ramp) (plan .rate k i) (plan .limit k i))
+
+  pub judged-small : (words : List ℕ) → Small (judged road words)
+  unfolding judged
+  judged-small words =
+      let trace = traceOf road words in
+      small-orElse (firstPlace (suc (road .steps)) (nodes road) (fixedAt road trace)) _
+      (small-place (suc (road .steps)) (nodes road) _ (omega arith) (omega arith) (λ k i. fixed-small road k i (trace .state k i) (trace .flows k i)))
+      (small-orElse (firstPlace (road .steps) (nodes road) (stepAt road trace)) _
+      (small-place (road .steps) (nodes road) _ (omega arith) (omega arith)
+      (λ k i. step-small (junction road k (trace .state k) i) (trace .flows k i) (next road k (trace .state k) (trace .flows k) i) (trace .state (suc k) i)))
+      (small-refusal (costFault road words) 0 0 (cost-small road words) (omega arith) (omega arith)))
+
+-- a wrong length is refused before any place is named
+pub sized-small : (fits : Bool) (rest : Answer) → (fits ≡ true → Small rest) → Small (orElse (sized fits) rest)
+sized-small true rest h = h refl
+sized-small false rest h = record { number = omega arith; row = omega arith; node = omega arith }
+
+-- ---- the answers of the four calls
+
+module _ (corridor demands : List ℕ) where
+  -- N and K are small where both lists have their lengths
+  ranges-fit : sizes corridor demands ≡ true → Small (ranges (roadOf corridor demands))
+  unfolding roadOf
+  ranges-fit e = let s = sizes-iff corridor demands .0 e in ranges-small (roadOf corridor demands) (omega (arith, s .links)) (omega (arith, s .steps))
+
+  bounds-fit : (plan : List ℕ) → sizes corridor demands ≡ true → Small (bounds (roadOf corridor demands) (planOf (roadOf corridor demands) plan))
+  unfolding roadOf
+  bounds-fit plan e = let s = sizes-iff corridor demands .0 e in bounds-small (roadOf corridor demands) (omega (arith, s .links)) (omega (arith, s .steps)) _
+
+  judged-fit : (words : List ℕ) → sizes corridor demands ≡ true → Small (judged (roadOf corridor demands) words)
+  unfolding roadOf
+  judged-fit words e = let s = sizes-iff corridor demands .0 e in judged-small (roadOf corridor demands) (omega (arith, s .links)) (omega (arith, s .steps)) words
+
+  first-holds : (a b : Bool) → (a && b) ≡ true → a ≡ true
+  first-holds true b e = refl
+  first-holds false b e = e
+
+  pub simulate-small : (plan : List ℕ) (room : ℕ) → Small (simulateAnswer corridor demands plan room)
+  unfolding simulateAnswer simulateSizes
+  simulate-small plan room =
+      sized-small (simulateSizes corridor demands plan room) _
+      (λ e. let s = first-holds (sizes corridor demands) _ e in small-orElse (ranges (roadOf corridor demands)) _ (ranges-fit s) (bounds-fit plan s))
+
+  pub check-small : (words : List ℕ) → Small (checkAnswer corridor demands words)
+  unfolding checkAnswer
+  check-small words =
+      sized-small (sizes corridor demands && eqb (length words) (recordLength (linksOf corridor) (stepsOf demands))) _
+      (λ e. let s = first-holds (sizes corridor demands) _ e in small-orElse (ranges (roadOf corridor demands)) _ (ranges-fit s) (judged-fit words s))
+
+  pub convert-small : (words : List ℕ) (room : ℕ) → Small (convertAnswer corridor demands words room)
+  unfolding convertAnswer
+  convert-small words room =
+      sized-small
+      (sizes corridor demands
+      && (eqb (length words) (recordLength (linksOf corridor) (stepsOf demands)) && eqb room (planLength (linksOf corridor) (stepsOf demands)))) _
+      (λ e. let s = first-holds (sizes corridor demands) _ e in small-orElse (ranges (roadOf corridor demands)) _ (ranges-fit s) (judged-fit words s))
+
+  pub normal-small : (plan : List ℕ) (work room : ℕ) → Small (normalAnswer corridor demands plan work room)
+  unfolding normalAnswer normalRefusal
+  normal-small plan work room =
+      let fits : Bool =
+      sizes corridor demands
+      && (eqb (length plan) (planLength (linksOf corridor) (stepsOf demands))
+      && (eqb work (recordLength (linksOf corridor) (stepsOf demands)) && eqb room (planLength (linksOf corridor) (stepsOf demands)))) in
+      let rest : Answer = orElse (ranges (roadOf corridor demands)) (bounds (roadOf corridor demands) (planOf (roadOf corridor demands) plan)) in
+      let last : Answer = judged (roadOf corridor demands) (simulated corridor demands plan) in
+      subst Small (sym (orElse-assoc (sized fits) rest last))
+      (sized-small fits (orElse rest last)
+      (λ e.
+      let s = first-holds (sizes corridor demands) _ e in
+      small-orElse rest last (small-orElse (ranges (roadOf corridor demands)) _ (ranges-fit s) (bounds-fit plan s)) (judged-fit (simulated corridor demands plan) s)))

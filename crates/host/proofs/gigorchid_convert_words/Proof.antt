@@ -1,0 +1,26 @@
+-- The call answers a small number.
+use mathlib.Core.Path.{sym, ap, subst, _∙_}
+use Rattle.tables.specs.declared.Answer.{Answer}
+use Rattle.tables.specs.Answer.{hostNumber}
+use Rattle.tables.proofs.Answers.{Small}
+use Rattle.tables.proofs.Sets.{all}
+use Rattle.host.proofs.Answers.{convert-small}
+use Rattle.host.proofs.gigorchid_convert_words.Statement.{statement}
+use Rattle.host.proofs.gigorchid_convert_words.Tie as tie
+
+number-requires : tie.Need-number-requires
+number-requires c κs = subst Small (sym (c .before .before .convert .ensures .0)) (convert-small _ _ _ _)
+
+returns : tie.Need-returns
+returns c =
+    let e = c .before .before .before .convert .ensures in
+    (c .number .ensures ∙ ap hostNumber (e .0), e .1)
+
+pub gigorchid-convert-words-spec : {M : Type 1} → statement M
+gigorchid-convert-words-spec =
+    tie.close
+    (tie.spec
+    (λ c κs. search all)
+    number-requires
+    (λ c. search all)
+    returns)

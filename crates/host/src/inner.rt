@@ -1,0 +1,15 @@
+// An answer as one number.
+ghost use mathlib.Core.Path.{_≡_};
+ghost use Rattle.tables.specs.Answer.{hostNumber};
+ghost use Rattle.tables.proofs.Answers.{Small};
+use tables::Answer;
+
+pub fn number(answer: Answer) -> u32
+    requires { ⌜ Small answer ⌝ }
+    ensures { λ r. ⌜ r ≡ hostNumber answer ⌝ }
+{
+    match answer {
+        Answer::Accepted => 0,
+        Answer::Refused { number, row, node } => row * 65536 + node * 256 + number,
+    }
+}

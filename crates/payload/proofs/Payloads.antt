@@ -1,0 +1,147 @@
+-- Laws of payload words that are put in place: the loop that puts them, and the payload once they are put.
+use mathlib.Core.List.{List}
+use mathlib.Core.Logic.{_≢_}
+use mathlib.Core.Path.{_≡_, refl, sym, ap, _∙_, subst}
+use Prim.Native.Nat.{ℕ, zero, suc, _+_, _-_, _*_, _≤_, _<_}
+use native.Mathlib.Decide.{decLt}
+use native.Mathlib.Nat.{zero-add}
+use native.Mathlib.Numerals.{add-one}
+use native.Mathlib.Omega.{arith}
+use borrow.Rule.Slice.PartMut.{putMid}
+use lib.ListN.{length, getD, take, drop}
+use Rattle.tables.proofs.Grid.{Rowed, rowed-lent}
+use Rattle.tables.proofs.Numbers.{row-fits}
+use Rattle.tables.proofs.Part.{put-length, put-before, put-within, put-after}
+use Rattle.tables.proofs.Tabulate.{tabulate-length, tabulate-at, tabulate-is, tabulate-same, tabulate-part}
+use Rattle.payload.specs.Word.{Words, wordAt, putWord}
+use Rattle.payload.specs.File.{blocksFor, payloadPlace, payloadWord, payloadPart, payloadOf, putFirst, putPayload, fileOf}
+use Rattle.payload.proofs.Words.{put-word-length, word-put, word-other}
+
+-- ---- as a loop's invariant: i of the words are put
+
+pub record Put (i : ℕ) (d : List ℕ) (from : ℕ) (words l : List ℕ) : Type 0 where
+  pub bound : i ≤ length words
+  pub same : length l ≡ length d
+  pub is : l ≡ putFirst i d from words
+
+pub put-begun : (d : List ℕ) (from : ℕ) (words : List ℕ) → Put 0 d from words d
+unfolding putFirst
+put-begun d from words = record { bound = omega arith; same = refl; is = refl }
+
+pub put-more : (i : ℕ) (d : List ℕ) (from : ℕ) (words l l′ : List ℕ) → Put i d from words l → i < length words
+    → l′ ≡ putWord l (payloadPlace (from + i)) (getD words i 0) → Put (i + 1) d from words l′
+unfolding putFirst
+put-more i d from words l l′ a h e =
+    record {
+      bound = omega arith;
+      same = ap length e ∙ put-word-length l _ _ ∙ a .same;
+      is =
+          e
+          ∙ ap (λ (x : List ℕ). putWord x (payloadPlace (from + i)) (getD words i 0)) (a .is)
+          ∙ ap (λ (k : ℕ). putFirst k d from words) (sym (add-one i));
+    }
+
+pub put-ended : (i : ℕ) (d : List ℕ) (from : ℕ) (words l : List ℕ) → Put i d from words l → length words ≤ i → l ≡ putPayload d from words
+put-ended i d from words l a h =
+    let e : i ≡ length words = omega arith in
+    a .is ∙ ap (λ (k : ℕ). putFirst k d from words) e
+
+-- ---- the payload once words are put
+
+put-first-length : (n : ℕ) (d : List ℕ) (from : ℕ) (words : List ℕ) → length (putFirst n d from words) ≡ length d
+unfolding putFirst
+put-first-length zero d from words = refl
+put-first-length (suc n) d from words = put-word-length _ _ _ ∙ put-first-length n d from words
+
+put-first-other : (n : ℕ) (d : List ℕ) (from : ℕ) (words : List ℕ) (j : ℕ) → ((i : ℕ) → i < n → j ≢ from + i)
+    → payloadWord (putFirst n d from words) j ≡ payloadWord d j
+unfolding putFirst payloadWord
+put-first-other zero d from words j h = refl
+put-first-other (suc n) d from words j h =
+    word-other (putFirst n d from words) (payloadPlace (from + n)) (getD words n 0) (payloadPlace j) (λ e. h n (omega arith) (omega arith))
+    ∙ put-first-other n d from words j (λ i l. h i (omega arith))
+
+put-first-at : (n : ℕ) (d : List ℕ) (from : ℕ) (words : List ℕ) → Words words → blocksFor (from + n) * 512 ≤ length d → (i : ℕ) → i < n
+    → payloadWord (putFirst n d from words) (from + i) ≡ getD words i 0
+unfolding putFirst payloadWord
+put-first-at zero d from words w f i h = absurd (omega arith)
+put-first-at (suc n) d from words w f i h =
+    elim (decLt i n) [
+      | yes l ↦
+          word-other (putFirst n d from words) (payloadPlace (from + n)) (getD words n 0) (payloadPlace (from + i)) (λ e. omega arith)
+          ∙ put-first-at n d from words w (omega arith) i l
+      | no l ↦
+          let e : i ≡ n = omega arith in
+          ap (λ (k : ℕ). wordAt (putWord (putFirst n d from words) (payloadPlace (from + n)) (getD words n 0)) (payloadPlace (from + k))) e
+          ∙ word-put (putFirst n d from words) (payloadPlace (from + n)) (getD words n 0) (omega (arith, put-first-length n d from words)) (w n)
+          ∙ ap (λ (k : ℕ). getD words k 0) (sym e)
+    ]
+
+pub put-length-same : (d : List ℕ) (from : ℕ) (words : List ℕ) → length (putPayload d from words) ≡ length d
+put-length-same d from words = put-first-length (length words) d from words
+
+-- the payload with the words in place of those that stood there, as a part that is lent comes back
+pub payload-put : (m from : ℕ) (d words : List ℕ) → Words words → from + length words ≤ m → blocksFor m * 512 ≤ length d
+    → payloadOf m (putPayload d from words) ≡ putMid from (from + length words - from) (payloadOf m d) words
+payload-put m from d words w h f =
+    let n = length words in
+    let old = payloadOf m d in
+    let len : length old ≡ m = tabulate-length m (payloadWord d) in
+    let fits : from + length words ≤ length (payloadOf m d) = omega arith in
+    sym
+    (tabulate-is m (payloadWord (putPayload d from words)) (putMid from (from + n - from) old words)
+    (put-length from n old words fits refl ∙ len)
+    (λ j b.
+    elim (decLt j from) [
+      | yes l ↦
+          put-before from n old words fits refl j 0 l
+          ∙ tabulate-at m (payloadWord d) j 0 b
+          ∙ sym (put-first-other n d from words j (λ i s. omega arith))
+      | no l ↦
+          elim (decLt j (from + n)) [
+            | yes s ↦
+                let e : from + (j - from) ≡ j = omega arith in
+                ap (λ (k : ℕ). getD (putMid from (from + n - from) old words) k 0) (sym e)
+                ∙ put-within from n old words fits refl (j - from) 0 (omega arith)
+                ∙ sym (put-first-at n d from words w (omega arith) (j - from) (omega arith))
+                ∙ ap (payloadWord (putPayload d from words)) e
+            | no s ↦
+                put-after from n old words fits refl j 0 (omega arith)
+                ∙ tabulate-at m (payloadWord d) j 0 b
+                ∙ sym (put-first-other n d from words j (λ i r. omega arith))
+          ]
+    ]))
+
+-- all words are put
+pub payload-put-all : (d words : List ℕ) → Words words → blocksFor (length words) * 512 ≤ length d → payloadOf (length words) (putPayload d 0 words) ≡ words
+payload-put-all d words w f =
+    sym
+    (tabulate-is (length words) (payloadWord (putPayload d 0 words)) words refl
+    (λ j b.
+    let z : 0 + j ≡ j = zero-add j in
+    let y : 0 + length words ≡ length words = zero-add (length words) in
+    sym (ap (payloadWord (putPayload d 0 words)) (sym z) ∙ put-first-at (length words) d 0 words w (rw y f) j b)))
+
+-- so what is sealed then is the file of the words
+pub put-sealed : (kind : ℕ) (d words : List ℕ) → Words words → blocksFor (length words) * 512 ≤ length d
+    → fileOf kind (payloadOf (length words) (putPayload d 0 words)) ≡ fileOf kind words
+put-sealed kind d words w f = ap (fileOf kind) (payload-put-all d words w f)
+
+-- one more row of w words is put
+pub rowed-put : (k m w : ℕ) (g : ℕ → ℕ → ℕ) (d : List ℕ) (p at : ℕ) (l l′ ys : List ℕ) → Rowed k m w g d (payloadOf p l) → k < m → at ≡ k * w
+    → l′ ≡ putPayload l at ys → Words ys → length ys ≡ w → m * w ≤ p → blocksFor p * 512 ≤ length l → ((j : ℕ) → j < w → getD ys j 0 ≡ g k j)
+    → Rowed (k + 1) m w g d (payloadOf p l′)
+rowed-put k m w g d p at l l′ ys a h e u f q r s agree =
+    let old = payloadOf p l in
+    let fits : at + length ys ≤ p = omega (arith, row-fits k m w h) in
+    let back : putMid at (at + length ys - at) old ys ≡ putMid at (at + w - at) old ys = ap (λ (n : ℕ). putMid at (at + n - at) old ys) q in
+    subst (λ (x : List ℕ). Rowed (k + 1) m w g d x) (sym (ap (payloadOf p) u ∙ payload-put p at l ys f fits s ∙ back))
+    (rowed-lent k m w g d old at w (λ j. getD ys j 0) ys a h e (tabulate-is w (λ j. getD ys j 0) ys q (λ j b. refl)) refl agree)
+
+-- ---- a part of the payload is that part of it as a list
+
+pub payload-part : (from n m : ℕ) (file : List ℕ) → from + n ≤ m → payloadPart from n file ≡ take (from + n - from) (drop from (payloadOf m file))
+payload-part from n m file h = sym (tabulate-part from n m (payloadWord file) h)
+
+pub payload-all : (m : ℕ) (file : List ℕ) → payloadPart 0 m file ≡ payloadOf m file
+payload-all m file = tabulate-same m (λ i. payloadWord file (0 + i)) (payloadWord file) (λ j b. ap (payloadWord file) (zero-add j))

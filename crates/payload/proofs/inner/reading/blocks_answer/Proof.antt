@@ -1,0 +1,20 @@
+-- A loop that looks for the first block that is refused.
+use Prim.Native.Nat.{_-_}
+use Rattle.tables.proofs.Sets.{all}
+use Rattle.tables.proofs.First.{Passed}
+use Rattle.payload.specs.Reading.{blockAnswer}
+use Rattle.payload.proofs.inner.reading.blocks_answer.Statement.{statement}
+use Rattle.payload.proofs.inner.reading.blocks_answer.Tie as tie
+
+abbrev Inv-loop : tie.InvT-loop
+Inv-loop kind file blocks t₀ t = Passed t blocks (blockAnswer kind file)
+
+abbrev μ-loop : tie.MeasureT-loop
+μ-loop kind file blocks t₀ t = blocks - t
+
+pub blocks-answer-spec : {M : Type 1} → statement M
+blocks-answer-spec =
+    tie.close
+    (tie.spec
+    Inv-loop μ-loop (λ c. search all) (λ c κs. search all) (λ c. search all) (λ c. search all) (λ c. search all)
+    (λ c. search all) (λ c. search all) (λ c. search all) (λ c. search all))

@@ -1,0 +1,5 @@
+pub mod Word
+pub mod Block
+pub mod File
+pub mod Reading
+pub mod Cases

@@ -1,0 +1,141 @@
+//! Benchmarks at full size: the host's time for each piece of work as a ratio to that of the
+//! yardstick in the same run. Prints a table.
+
+use std::hint::black_box;
+use std::time::Instant;
+use tests::calls::WordCalls;
+use tests::host::Host;
+use tests::model::lists::{corridor_of, Node};
+use tests::model::{Input, MOST_QUEUE_LIMIT};
+use tests::random::damage::full_size;
+use tests::random::records::record_of_plan;
+use tests::random::Random;
+use tests::yardstick::Yardstick;
+
+const RUNS: usize = 25;
+
+/// The lists that the work is done on.
+struct Lists {
+    corridor: Vec<u32>,
+    demands: Vec<u32>,
+    plan: Vec<u32>,
+    record: Vec<u32>,
+}
+
+fn node(random: &mut Random, i: usize, links: usize) -> Node {
+    let (link, ramp) = (u32::from(i > 0), u32::from(i < links));
+    Node {
+        identifier: 1 + i as u32,
+        capacity: link * random.within(30_000, 65_536) as u32,
+        full_speed: link * random.within(30_000, 65_536) as u32,
+        wave_speed: link * random.within(30_000, 65_536) as u32,
+        jam: link * 65_536,
+        ramp_capacity: ramp * 65_536,
+        queue_limit: ramp * MOST_QUEUE_LIMIT,
+        start_vehicles: link * 20_000,
+        start_queue: ramp * 1_000_000,
+    }
+}
+
+/// 64 links and 1,440 steps, every ramp as long as any and with a long queue, some links held and
+/// some with too little room, so that the search for a rate has everything to do.
+fn lists() -> Lists {
+    let size = full_size();
+    let mut random = Random::new(1);
+    let nodes: Vec<Node> = (0..size.nodes()).map(|i| node(&mut random, i, size.links)).collect();
+    let mut demands = vec![size.steps as u32];
+    let mut plan = vec![];
+    for _ in 0..size.steps {
+        for (i, node) in nodes.iter().enumerate() {
+            let ramp = u32::from(i < size.links);
+            let split = ramp * u32::from(i > 0) * random.within(0, 32_768) as u32;
+            demands.extend([ramp * random.within(0, 4_000) as u32, split]);
+            let held = random.within(0, node.full_speed.into()) as u32;
+            let limit = random.pick(&[node.full_speed, held]);
+            plan.extend([random.within(0, node.ramp_capacity.into()) as u32, limit]);
+        }
+    }
+    let corridor = corridor_of(&nodes);
+    let input = Input::new(&corridor, &demands).expect("made to these lengths");
+    let record = record_of_plan(&input, &plan);
+    Lists { corridor, demands, plan, record }
+}
+
+/// Milliseconds of one run; the output is cleared before and must be accepted.
+fn time<T: Copy + Default>(output: &mut [T], work: &mut dyn FnMut(&mut [T]) -> u32) -> f64 {
+    output.fill(T::default());
+    let start = Instant::now();
+    let answer = black_box(work(black_box(output)));
+    let milliseconds = start.elapsed().as_secs_f64() * 1_000.0;
+    assert_eq!(answer, 0, "the work is accepted");
+    milliseconds
+}
+
+/// The shortest time, which other work on the machine disturbs least.
+fn shortest(times: Vec<f64>) -> f64 {
+    times.into_iter().fold(f64::INFINITY, f64::min)
+}
+
+/// Prints one line: the shortest times of both sides, run in turn, and their ratio.
+fn compare<T: Copy + Default>(
+    name: &str,
+    length: usize,
+    host: &mut dyn FnMut(&mut [T]) -> u32,
+    rust: &mut dyn FnMut(&mut [T]) -> u32,
+) {
+    let mut output = vec![T::default(); length];
+    let mut times = [vec![], vec![]];
+    for _ in 0..RUNS {
+        times[0].push(time(&mut output, host));
+        times[1].push(time(&mut output, rust));
+    }
+    let [host, rust] = times.map(shortest);
+    println!("| {name} | {host:.3} | {rust:.3} | {:.2} |", host / rust);
+}
+
+fn bench_words(lists: &Lists) {
+    let Lists { corridor, demands, plan, record } = lists;
+    let simulate =
+        |calls: &dyn WordCalls, out: &mut [u32]| calls.simulate(corridor, demands, plan, out);
+    let check = |calls: &dyn WordCalls| calls.check(corridor, demands, record);
+    let convert =
+        |calls: &dyn WordCalls, out: &mut [u32]| calls.convert(corridor, demands, record, out);
+    let (record_length, plan_length) = (record.len(), plan.len());
+    compare("simulate", record_length, &mut |out| simulate(&Host, out), &mut |out| {
+        simulate(&Yardstick, out)
+    });
+    compare::<u32>("check", 0, &mut |_| check(&Host), &mut |_| check(&Yardstick));
+    compare("convert", plan_length, &mut |out| convert(&Host, out), &mut |out| {
+        convert(&Yardstick, out)
+    });
+}
+
+#[cfg(feature = "files")]
+fn bench_files(lists: &Lists) {
+    use tests::calls::FileCalls;
+    use tests::model::files::KINDS;
+    use tests::random::files::file_of;
+    let all = [&lists.corridor, &lists.demands, &lists.record, &lists.plan];
+    for (kind, words) in KINDS.into_iter().zip(all) {
+        let file = file_of(kind, words);
+        let read = |calls: &dyn FileCalls, out: &mut [u32]| calls.read(kind, 64, 1_440, &file, out);
+        let write =
+            |calls: &dyn FileCalls, out: &mut [u8]| calls.write(kind, 64, 1_440, words, out);
+        let (reader, writer) = (format!("read {kind:?}"), format!("write {kind:?}"));
+        compare(&reader, words.len(), &mut |out| read(&Host, out), &mut |out| {
+            read(&Yardstick, out)
+        });
+        compare(&writer, file.len(), &mut |out| write(&Host, out), &mut |out| {
+            write(&Yardstick, out)
+        });
+    }
+}
+
+fn main() {
+    let lists = lists();
+    println!("| 64 links, 1,440 steps | host, ms | Rust, ms | ratio |");
+    println!("|-|-|-|-|");
+    bench_words(&lists);
+    #[cfg(feature = "files")]
+    bench_files(&lists);
+}

@@ -1,0 +1,236 @@
+//! The product's calls as traits, so that the model, a wrong variant of it and the host all fit
+//! the same comparisons; and two ways to make a call: on nodes, and on a small stack.
+
+use crate::model::lists::{corridor_of, Node, NODE_WORDS};
+use crate::model::{self, answer, Kind, Rules};
+
+/// The calls on word lists. Each answers row × 65,536 + node × 256 + number, 0 for accepted.
+pub trait WordCalls: Sync {
+    fn simulate(&self, corridor: &[u32], demands: &[u32], plan: &[u32], record: &mut [u32]) -> u32;
+    fn check(&self, corridor: &[u32], demands: &[u32], record: &[u32]) -> u32;
+    fn convert(&self, corridor: &[u32], demands: &[u32], record: &[u32], plan: &mut [u32]) -> u32;
+    fn normal(
+        &self,
+        corridor: &[u32],
+        demands: &[u32],
+        plan: &[u32],
+        work: &mut [u32],
+        normal: &mut [u32],
+    ) -> u32;
+}
+
+/// The same calls with the corridor as a list of nodes.
+pub trait NodeCalls: Sync {
+    fn simulate_nodes(
+        &self,
+        corridor: &[Node],
+        demands: &[u32],
+        plan: &[u32],
+        record: &mut [u32],
+    ) -> u32;
+    fn check_nodes(&self, corridor: &[Node], demands: &[u32], record: &[u32]) -> u32;
+    fn convert_nodes(
+        &self,
+        corridor: &[Node],
+        demands: &[u32],
+        record: &[u32],
+        plan: &mut [u32],
+    ) -> u32;
+    fn normal_nodes(
+        &self,
+        corridor: &[Node],
+        demands: &[u32],
+        plan: &[u32],
+        work: &mut [u32],
+        normal: &mut [u32],
+    ) -> u32;
+}
+
+/// The calls on block files; `files` are corridor, demands and record.
+pub trait FileCalls: Sync {
+    fn read(&self, kind: Kind, n: u32, k: u32, file: &[u8], words: &mut [u32]) -> u32;
+    fn write(&self, kind: Kind, n: u32, k: u32, words: &[u32], file: &mut [u8]) -> u32;
+    fn check_files(&self, n: u32, k: u32, files: [&[u8]; 3]) -> u32;
+    fn convert_files(&self, n: u32, k: u32, files: [&[u8]; 3], plan_file: &mut [u8]) -> u32;
+}
+
+/// The program `normal`: what it prints for that standard input.
+pub trait Program {
+    fn print(&self, input: &[u8]) -> Vec<u8>;
+}
+
+impl<R: Rules> WordCalls for R {
+    fn simulate(&self, corridor: &[u32], demands: &[u32], plan: &[u32], record: &mut [u32]) -> u32 {
+        answer(model::simulate::<R>(corridor, demands, plan, record))
+    }
+
+    fn check(&self, corridor: &[u32], demands: &[u32], record: &[u32]) -> u32 {
+        answer(model::check::<R>(corridor, demands, record))
+    }
+
+    fn convert(&self, corridor: &[u32], demands: &[u32], record: &[u32], plan: &mut [u32]) -> u32 {
+        answer(model::convert::<R>(corridor, demands, record, plan))
+    }
+
+    fn normal(
+        &self,
+        corridor: &[u32],
+        demands: &[u32],
+        plan: &[u32],
+        work: &mut [u32],
+        normal: &mut [u32],
+    ) -> u32 {
+        answer(model::normal::<R>(corridor, demands, plan, work, normal))
+    }
+}
+
+impl<R: Rules> NodeCalls for R {
+    fn simulate_nodes(
+        &self,
+        corridor: &[Node],
+        demands: &[u32],
+        plan: &[u32],
+        record: &mut [u32],
+    ) -> u32 {
+        self.simulate(&corridor_of(corridor), demands, plan, record)
+    }
+
+    fn check_nodes(&self, corridor: &[Node], demands: &[u32], record: &[u32]) -> u32 {
+        self.check(&corridor_of(corridor), demands, record)
+    }
+
+    fn convert_nodes(
+        &self,
+        corridor: &[Node],
+        demands: &[u32],
+        record: &[u32],
+        plan: &mut [u32],
+    ) -> u32 {
+        self.convert(&corridor_of(corridor), demands, record, plan)
+    }
+
+    fn normal_nodes(
+        &self,
+        corridor: &[Node],
+        demands: &[u32],
+        plan: &[u32],
+        work: &mut [u32],
+        normal: &mut [u32],
+    ) -> u32 {
+        self.normal(&corridor_of(corridor), demands, plan, work, normal)
+    }
+}
+
+impl<R: Rules> FileCalls for R {
+    fn read(&self, kind: Kind, n: u32, k: u32, file: &[u8], words: &mut [u32]) -> u32 {
+        answer(model::read::<R>(kind, n, k, file, words))
+    }
+
+    fn write(&self, kind: Kind, n: u32, k: u32, words: &[u32], file: &mut [u8]) -> u32 {
+        answer(model::write::<R>(kind, n, k, words, file))
+    }
+
+    fn check_files(&self, n: u32, k: u32, files: [&[u8]; 3]) -> u32 {
+        answer(model::check_files::<R>(n, k, files))
+    }
+
+    fn convert_files(&self, n: u32, k: u32, files: [&[u8]; 3], plan_file: &mut [u8]) -> u32 {
+        answer(model::convert_files::<R>(n, k, files, plan_file))
+    }
+}
+
+impl<R: Rules> Program for R {
+    fn print(&self, input: &[u8]) -> Vec<u8> {
+        model::program::print::<R>(input).into_bytes()
+    }
+}
+
+/// Makes calls on nodes from word lists. The list's own N falls away; its nodes count.
+pub struct ByNodes<C>(pub C);
+
+/// The whole nodes of a corridor's words, sound or not.
+fn nodes_of(corridor: &[u32]) -> Vec<Node> {
+    let words = corridor.get(1..).unwrap_or(&[]);
+    words.chunks_exact(NODE_WORDS).map(Node::from_words).collect()
+}
+
+impl<C: NodeCalls> WordCalls for ByNodes<C> {
+    fn simulate(&self, corridor: &[u32], demands: &[u32], plan: &[u32], record: &mut [u32]) -> u32 {
+        self.0.simulate_nodes(&nodes_of(corridor), demands, plan, record)
+    }
+
+    fn check(&self, corridor: &[u32], demands: &[u32], record: &[u32]) -> u32 {
+        self.0.check_nodes(&nodes_of(corridor), demands, record)
+    }
+
+    fn convert(&self, corridor: &[u32], demands: &[u32], record: &[u32], plan: &mut [u32]) -> u32 {
+        self.0.convert_nodes(&nodes_of(corridor), demands, record, plan)
+    }
+
+    fn normal(
+        &self,
+        corridor: &[u32],
+        demands: &[u32],
+        plan: &[u32],
+        work: &mut [u32],
+        normal: &mut [u32],
+    ) -> u32 {
+        self.0.normal_nodes(&nodes_of(corridor), demands, plan, work, normal)
+    }
+}
+
+/// Makes each call in a thread of its own with a stack of 128 KiB; the lists are on the heap.
+pub struct OnSmallStack<C>(pub C);
+
+const SMALL_STACK: usize = 128 * 1024;
+
+fn on_small_stack(call: impl FnOnce() -> u32 + Send) -> u32 {
+    std::thread::scope(|scope| {
+        let thread = std::thread::Builder::new().stack_size(SMALL_STACK);
+        let running = thread.spawn_scoped(scope, call).expect("the thread starts");
+        running.join().expect("the call comes back")
+    })
+}
+
+impl<C: WordCalls> WordCalls for OnSmallStack<C> {
+    fn simulate(&self, corridor: &[u32], demands: &[u32], plan: &[u32], record: &mut [u32]) -> u32 {
+        on_small_stack(|| self.0.simulate(corridor, demands, plan, record))
+    }
+
+    fn check(&self, corridor: &[u32], demands: &[u32], record: &[u32]) -> u32 {
+        on_small_stack(|| self.0.check(corridor, demands, record))
+    }
+
+    fn convert(&self, corridor: &[u32], demands: &[u32], record: &[u32], plan: &mut [u32]) -> u32 {
+        on_small_stack(|| self.0.convert(corridor, demands, record, plan))
+    }
+
+    fn normal(
+        &self,
+        corridor: &[u32],
+        demands: &[u32],
+        plan: &[u32],
+        work: &mut [u32],
+        normal: &mut [u32],
+    ) -> u32 {
+        on_small_stack(|| self.0.normal(corridor, demands, plan, work, normal))
+    }
+}
+
+impl<C: FileCalls> FileCalls for OnSmallStack<C> {
+    fn read(&self, kind: Kind, n: u32, k: u32, file: &[u8], words: &mut [u32]) -> u32 {
+        on_small_stack(|| self.0.read(kind, n, k, file, words))
+    }
+
+    fn write(&self, kind: Kind, n: u32, k: u32, words: &[u32], file: &mut [u8]) -> u32 {
+        on_small_stack(|| self.0.write(kind, n, k, words, file))
+    }
+
+    fn check_files(&self, n: u32, k: u32, files: [&[u8]; 3]) -> u32 {
+        on_small_stack(|| self.0.check_files(n, k, files))
+    }
+
+    fn convert_files(&self, n: u32, k: u32, files: [&[u8]; 3], plan_file: &mut [u8]) -> u32 {
+        on_small_stack(|| self.0.convert_files(n, k, files, plan_file))
+    }
+}

@@ -1,0 +1,253 @@
+//! Comparisons of two sides, call by call: the answers, every word or byte of the lent lists, and
+//! guards around those lists, which no call may touch.
+
+use crate::calls::{FileCalls, Program, WordCalls};
+use crate::model::Input;
+use crate::random::files::{FileCase, ThreeFiles};
+use crate::random::sound::WordCase;
+use crate::random::Random;
+use crate::tally::Tally;
+
+/// Words or bytes before and after each lent list.
+const GUARD: usize = 16;
+
+/// What the lent lists hold before a call: different at each place, so that a shift shows.
+trait Pattern: Copy + PartialEq + std::fmt::Debug {
+    fn pattern(place: usize) -> Self;
+}
+
+impl Pattern for u32 {
+    fn pattern(place: usize) -> u32 {
+        0xA5A5_0000 ^ place as u32
+    }
+}
+
+impl Pattern for u8 {
+    fn pattern(place: usize) -> u8 {
+        0xA5 ^ (place % 251) as u8
+    }
+}
+
+/// A list to lend, filled with the pattern, inside its guards.
+struct Lent<T> {
+    all: Vec<T>,
+}
+
+impl<T: Pattern> Lent<T> {
+    fn new(length: usize) -> Lent<T> {
+        Lent { all: (0..length + 2 * GUARD).map(T::pattern).collect() }
+    }
+
+    fn list(&mut self) -> &mut [T] {
+        let end = self.all.len() - GUARD;
+        &mut self.all[GUARD..end]
+    }
+}
+
+fn place_text(answer: u32) -> String {
+    let (number, node, row) = (answer % 256, answer / 256 % 256, answer / 65_536);
+    format!("{number} (row {row}, node {node})")
+}
+
+/// Fails where two buffers differ, with the place counted from the lent list's start.
+fn same_buffer<T: Pattern>(call: &str, left: &Lent<T>, right: &Lent<T>) -> Result<(), String> {
+    let differing = left.all.iter().zip(&right.all).position(|(a, b)| a != b);
+    let Some(place) = differing else {
+        return Ok(());
+    };
+    let (a, b) = (left.all[place], right.all[place]);
+    let place = place as i64 - GUARD as i64;
+    Err(format!("{call}: lent list differs at {place}: {a:?} and {b:?}"))
+}
+
+/// One call by both sides, each with its own lent lists. Gives the answer and the left lists.
+fn same_call<C: ?Sized, T: Pattern>(
+    call: &'static str,
+    sides: [&C; 2],
+    lengths: [usize; 2],
+    make: impl Fn(&C, &mut [T], &mut [T]) -> u32,
+) -> Result<(u32, [Lent<T>; 2]), String> {
+    let mut left = lengths.map(Lent::new);
+    let mut right = lengths.map(Lent::new);
+    let [first, second] = &mut left;
+    let left_answer = make(sides[0], first.list(), second.list());
+    let [first, second] = &mut right;
+    let right_answer = make(sides[1], first.list(), second.list());
+    if left_answer != right_answer {
+        let (a, b) = (place_text(left_answer), place_text(right_answer));
+        return Err(format!("{call}: answers {a} and {b}"));
+    }
+    same_buffer(call, &left[0], &right[0])?;
+    same_buffer(call, &left[1], &right[1])?;
+    Ok((left_answer, left))
+}
+
+/// All four calls on word lists.
+pub fn compare_words(
+    sides: [&dyn WordCalls; 2],
+    case: &WordCase,
+    tally: &mut Tally,
+) -> Result<(), String> {
+    let WordCase { corridor, demands, plan, record, .. } = case;
+    compare_simulate(sides, case, tally)?;
+    let (answer, _) = same_call("check", sides, [0, 0], |side, _: &mut [u32], _| {
+        side.check(corridor, demands, record)
+    })?;
+    tally.answer("check", answer);
+    let lengths = [case.lent_plan, 0];
+    let (answer, [converted, _]) = same_call("convert", sides, lengths, |side, out, _| {
+        side.convert(corridor, demands, record, out)
+    })?;
+    tally_plan("convert", case, answer, converted, tally);
+    let lengths = [case.lent_record, case.lent_plan];
+    let (answer, [_, normal]) = same_call("normal", sides, lengths, |side, work, out| {
+        side.normal(corridor, demands, plan, work, out)
+    })?;
+    tally_plan("normal", case, answer, normal, tally);
+    Ok(())
+}
+
+fn compare_simulate(
+    sides: [&dyn WordCalls; 2],
+    case: &WordCase,
+    tally: &mut Tally,
+) -> Result<(), String> {
+    let WordCase { corridor, demands, plan, .. } = case;
+    let lengths = [case.lent_record, 0];
+    let (answer, [mut record, _]) = same_call("simulate", sides, lengths, |side, out, _| {
+        side.simulate(corridor, demands, plan, out)
+    })?;
+    tally.answer("simulate", answer);
+    if let (0, Ok(input)) = (answer, Input::new(corridor, demands)) {
+        tally.happenings(&input, plan, record.list());
+    }
+    Ok(())
+}
+
+/// Counts an answer and, if it is 0, the settings of the plan that came with it.
+fn tally_plan(
+    call: &'static str,
+    case: &WordCase,
+    answer: u32,
+    mut plan: Lent<u32>,
+    tally: &mut Tally,
+) {
+    tally.answer(call, answer);
+    if let (0, Ok(input)) = (answer, Input::new(&case.corridor, &case.demands)) {
+        tally.settings(&input, plan.list());
+    }
+}
+
+/// Names of the readers and writers for messages and counts, by kind.
+pub const READERS: [&str; 4] = ["read corridor", "read demands", "read record", "read plan"];
+pub const WRITERS: [&str; 4] = ["write corridor", "write demands", "write record", "write plan"];
+
+/// The reader and the writer of one kind.
+pub fn compare_file(
+    sides: [&dyn FileCalls; 2],
+    case: &FileCase,
+    tally: &mut Tally,
+) -> Result<(), String> {
+    let FileCase { kind, n, k, file, words, lent_words, lent_file } = case;
+    let (reader, writer) = (READERS[*kind as usize - 1], WRITERS[*kind as usize - 1]);
+    let (answer, _) = same_call(reader, sides, [*lent_words, 0], |side, out: &mut [u32], _| {
+        side.read(*kind, *n, *k, file, out)
+    })?;
+    tally.answer(reader, answer);
+    let (answer, _) = same_call(writer, sides, [*lent_file, 0], |side, out: &mut [u8], _| {
+        side.write(*kind, *n, *k, words, out)
+    })?;
+    tally.answer(writer, answer);
+    Ok(())
+}
+
+/// The checker and the converter on files.
+pub fn compare_three(
+    sides: [&dyn FileCalls; 2],
+    case: &ThreeFiles,
+    tally: &mut Tally,
+) -> Result<(), String> {
+    let (n, k) = (case.n, case.k);
+    let (answer, _) = same_call("check files", sides, [0, 0], |side, _: &mut [u8], _| {
+        side.check_files(n, k, case.files())
+    })?;
+    tally.answer("check files", answer);
+    let lengths = [case.lent_plan_file, 0];
+    let (answer, _) = same_call("convert files", sides, lengths, |side, out: &mut [u8], _| {
+        side.convert_files(n, k, case.files(), out)
+    })?;
+    tally.answer("convert files", answer);
+    Ok(())
+}
+
+/// The program, byte for byte; counts plans as 0 and refusals by their number.
+pub fn compare_program(
+    sides: [&dyn Program; 2],
+    input: &[u8],
+    tally: &mut Tally,
+) -> Result<(), String> {
+    let [left, right] = sides.map(|side| side.print(input));
+    if left != right {
+        let texts = [left, right].map(|bytes| String::from_utf8_lossy(&bytes).into_owned());
+        return Err(format!("normal: prints\n{}and\n{}", texts[0], texts[1]));
+    }
+    let text = String::from_utf8_lossy(&left);
+    let number = text.strip_prefix("REFUSED ").and_then(|rest| rest.split(' ').next());
+    tally.add("normal", number.map_or(0, |digits| digits.parse().unwrap_or(u32::MAX)), 1);
+    tally.add("held lines", 0, text.lines().filter(|line| line.ends_with(" H")).count() as u64);
+    tally.add("full lines", 0, text.lines().filter(|line| line.ends_with(" F")).count() as u64);
+    Ok(())
+}
+
+/// A series of random cases: case number j is made from the seed plus j.
+pub struct Series {
+    pub name: &'static str,
+    pub seed: u64,
+    pub count: u64,
+}
+
+impl Series {
+    /// The count times GIGORCHID_RUNS, from the seed plus GIGORCHID_SEED.
+    pub fn new(name: &'static str, seed: u64, count: u64) -> Series {
+        let number = |name, usual| match std::env::var(name) {
+            Ok(text) => text.parse().expect("a whole number"),
+            Err(_) => usual,
+        };
+        Series {
+            name,
+            seed: seed + number("GIGORCHID_SEED", 0),
+            count: count * number("GIGORCHID_RUNS", 1),
+        }
+    }
+
+    /// Makes and compares the cases in turn; the first difference ends the series.
+    pub fn run<T>(
+        &self,
+        make: impl Fn(&mut Random) -> T,
+        mut compare: impl FnMut(&T) -> Result<(), String>,
+    ) -> Result<(), String> {
+        println!("{}: {} cases from seed {}", self.name, self.count, self.seed);
+        for seed in self.seed..self.seed + self.count {
+            let case = make(&mut Random::new(seed));
+            compare(&case).map_err(|text| format!("{}, seed {seed}: {text}", self.name))?;
+        }
+        Ok(())
+    }
+}
+
+#[cfg(test)]
+mod guards {
+    use super::*;
+
+    /// A call that writes before or after the list lent to it is found out.
+    #[test]
+    fn writing_outside_is_found() {
+        for place in [GUARD - 1, GUARD + 5] {
+            let left = Lent::<u32>::new(5);
+            let mut right = Lent::<u32>::new(5);
+            assert_eq!(same_buffer("some call", &left, &right), Ok(()));
+            right.all[place] += 1;
+            assert!(same_buffer("some call", &left, &right).is_err());
+        }
+    }
+}

@@ -1,0 +1,16 @@
+//! Independent tests of Gigorchid: a model written from document 01 alone, seeded inputs,
+//! and comparisons of every exported call with the model, word for word.
+
+pub mod calls;
+pub mod compare;
+pub mod examples;
+#[cfg(feature = "host")]
+pub mod host;
+pub mod limits;
+pub mod model;
+#[cfg(feature = "program")]
+pub mod program;
+pub mod random;
+pub mod sweeps;
+pub mod tally;
+pub mod yardstick;

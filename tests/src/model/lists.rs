@@ -1,0 +1,230 @@
+//! The word lists of document 01: their lengths, where each word stands, and refusals 1 to 6,
+//! which concern the corridor, the demands and the plan.
+
+use super::{refusal, refuse_if, Outcome, Refusal, Rules, MOST_QUEUE_LIMIT, WHOLE};
+
+pub const MOST_LINKS: u32 = 64;
+pub const MOST_STEPS: u32 = 1_440;
+pub const NODE_WORDS: usize = 9;
+pub const DEMAND_WORDS: usize = 2;
+pub const PLAN_WORDS: usize = 2;
+pub const RECORD_WORDS: usize = 4;
+
+/// Numbers of links and steps, both within limits.
+#[derive(Clone, Copy, Debug, PartialEq, Eq)]
+pub struct Size {
+    pub links: usize,
+    pub steps: usize,
+}
+
+impl Size {
+    /// Refusal 1 for a bad N or K, judged as whole words.
+    pub fn new(n: u32, k: u32) -> Result<Size, Refusal> {
+        let good = (1..=MOST_LINKS).contains(&n) && (1..=MOST_STEPS).contains(&k);
+        refuse_if(!good, 1, 0, 0)?;
+        Ok(Size { links: n as usize, steps: k as usize })
+    }
+
+    pub fn nodes(self) -> usize {
+        self.links + 1
+    }
+
+    pub fn corridor(self) -> usize {
+        1 + NODE_WORDS * self.nodes()
+    }
+
+    pub fn demands(self) -> usize {
+        1 + DEMAND_WORDS * self.nodes() * self.steps
+    }
+
+    pub fn plan(self) -> usize {
+        PLAN_WORDS * self.nodes() * self.steps
+    }
+
+    /// States 0..K, then the two words of the cost.
+    pub fn record(self) -> usize {
+        RECORD_WORDS * self.nodes() * (self.steps + 1) + 2
+    }
+
+    /// Where the plan's rate stands; the limit follows.
+    pub fn plan_place(self, k: usize, i: usize) -> usize {
+        PLAN_WORDS * (k * self.nodes() + i)
+    }
+
+    /// Where the record's n stands; l, f and r follow.
+    pub fn record_place(self, k: usize, i: usize) -> usize {
+        RECORD_WORDS * (k * self.nodes() + i)
+    }
+}
+
+/// One node as the corridor lists it, also the C host's struct of the same order.
+#[repr(C)]
+#[derive(Clone, Copy, Debug, PartialEq, Eq)]
+pub struct Node {
+    pub identifier: u32,
+    pub capacity: u32,
+    pub full_speed: u32,
+    pub wave_speed: u32,
+    pub jam: u32,
+    pub ramp_capacity: u32,
+    pub queue_limit: u32,
+    pub start_vehicles: u32,
+    pub start_queue: u32,
+}
+
+impl Node {
+    pub fn from_words(words: &[u32]) -> Node {
+        Node {
+            identifier: words[0],
+            capacity: words[1],
+            full_speed: words[2],
+            wave_speed: words[3],
+            jam: words[4],
+            ramp_capacity: words[5],
+            queue_limit: words[6],
+            start_vehicles: words[7],
+            start_queue: words[8],
+        }
+    }
+
+    pub fn words(&self) -> [u32; NODE_WORDS] {
+        [
+            self.identifier,
+            self.capacity,
+            self.full_speed,
+            self.wave_speed,
+            self.jam,
+            self.ramp_capacity,
+            self.queue_limit,
+            self.start_vehicles,
+            self.start_queue,
+        ]
+    }
+}
+
+/// The corridor that a list of nodes stands for. No node at all gives N = 2^32 − 1, a bad one.
+pub fn corridor_of(nodes: &[Node]) -> Vec<u32> {
+    let mut corridor = vec![(nodes.len() as u32).wrapping_sub(1)];
+    for node in nodes {
+        corridor.extend(node.words());
+    }
+    corridor
+}
+
+/// Corridor and demands, of lengths that fit each other.
+#[derive(Clone, Copy)]
+pub struct Input<'a> {
+    pub size: Size,
+    corridor: &'a [u32],
+    demands: &'a [u32],
+}
+
+impl<'a> Input<'a> {
+    /// Refusal 1 as far as these two lists go; N and K are their first words.
+    pub fn new(corridor: &'a [u32], demands: &'a [u32]) -> Result<Input<'a>, Refusal> {
+        let bad = refusal(1, 0, 0);
+        let n = *corridor.first().ok_or(bad)?;
+        let k = *demands.first().ok_or(bad)?;
+        let size = Size::new(n, k)?;
+        same_length(corridor.len(), size.corridor())?;
+        same_length(demands.len(), size.demands())?;
+        Ok(Input { size, corridor, demands })
+    }
+
+    pub fn node(&self, i: usize) -> Node {
+        let place = 1 + NODE_WORDS * i;
+        Node::from_words(&self.corridor[place..place + NODE_WORDS])
+    }
+
+    fn demand(&self, k: usize, i: usize) -> usize {
+        1 + DEMAND_WORDS * (k * self.size.nodes() + i)
+    }
+
+    pub fn arrivals(&self, k: usize, i: usize) -> u64 {
+        self.demands[self.demand(k, i)].into()
+    }
+
+    pub fn split(&self, k: usize, i: usize) -> u64 {
+        self.demands[self.demand(k, i) + 1].into()
+    }
+}
+
+/// Refusal 1 for a list that has not just the length it should have.
+pub fn same_length(length: usize, wanted: usize) -> Outcome {
+    refuse_if(length != wanted, 1, 0, 0)
+}
+
+/// Refusals 2 to 5, each over the whole input before the next.
+pub fn test_input<R: Rules>(input: &Input) -> Outcome {
+    for number in R::CORRIDOR_ORDER {
+        for i in 0..input.size.nodes() {
+            refuse_if(R::node_fault(number, input, i), number, 0, i)?;
+        }
+    }
+    for k in 0..input.size.steps {
+        for i in 0..input.size.nodes() {
+            refuse_if(R::demand_fault(input, k, i), 5, k, i)?;
+        }
+    }
+    Ok(())
+}
+
+/// Refusal 2: F, V, W, J out of range, or not zero at node 0.
+pub fn link_fault(input: &Input, i: usize) -> bool {
+    let node = input.node(i);
+    let link = [node.capacity, node.full_speed, node.wave_speed, node.jam];
+    if i == 0 {
+        return link != [0; 4];
+    }
+    let speeds_and_jam = 1..=WHOLE as u32;
+    node.capacity > WHOLE as u32 || link[1..].iter().any(|word| !speeds_and_jam.contains(word))
+}
+
+/// Refusal 3: identifier zero or an earlier node's, C or L out of range, or not zero at node N.
+pub fn ramp_fault(input: &Input, i: usize) -> bool {
+    let node = input.node(i);
+    let repeated = (0..i).any(|earlier| input.node(earlier).identifier == node.identifier);
+    if node.identifier == 0 || repeated {
+        return true;
+    }
+    if i == input.size.links {
+        return node.ramp_capacity != 0 || node.queue_limit != 0;
+    }
+    node.ramp_capacity > WHOLE as u32 || node.queue_limit > MOST_QUEUE_LIMIT
+}
+
+/// Refusal 4: n > J or l > L at the start, or not zero at node 0 or N.
+pub fn start_fault(input: &Input, i: usize) -> bool {
+    let node = input.node(i);
+    let fixed_vehicles = i == 0 && node.start_vehicles != 0;
+    let fixed_queue = i == input.size.links && node.start_queue != 0;
+    let too_many = node.start_vehicles > node.jam || node.start_queue > node.queue_limit;
+    fixed_vehicles || fixed_queue || too_many
+}
+
+/// Refusal 5: Q or b out of range, Q not zero at node N, b not zero at node 0 or N.
+pub fn demand_fault(input: &Input, k: usize, i: usize) -> bool {
+    let (arrivals, split) = (input.arrivals(k, i), input.split(k, i));
+    let last = i == input.size.links;
+    let fixed = (last && arrivals != 0) || ((i == 0 || last) && split != 0);
+    arrivals > WHOLE || split > WHOLE || fixed
+}
+
+/// Refusal 6, first place by step, then node.
+pub fn test_plan<R: Rules>(input: &Input, plan: &[u32]) -> Outcome {
+    for k in 0..input.size.steps {
+        for i in 0..input.size.nodes() {
+            let place = input.size.plan_place(k, i);
+            let (rate, limit) = (plan[place], plan[place + 1]);
+            refuse_if(R::plan_fault(input, i, rate, limit), 6, k, i)?;
+        }
+    }
+    Ok(())
+}
+
+/// Refusal 6: rate above C or limit above V. Node N has C = 0 and node 0 has V = 0, after 2
+/// and 3 passed, so that node N's rate and node 0's limit must be zero.
+pub fn plan_fault(input: &Input, i: usize, rate: u32, limit: u32) -> bool {
+    let node = input.node(i);
+    rate > node.ramp_capacity || limit > node.full_speed
+}

@@ -1,0 +1,69 @@
+//! The program `normal`: what it prints for given bytes on standard input.
+
+use super::convert::{rate_and_limit, setting_at};
+use super::files::{read_three, words_of, Kind};
+use super::{refusal, refuse_if, Input, Refusal, Rules, Setting, Size};
+
+pub const MOST_BYTES: usize = 65_536;
+
+/// Everything that the program prints.
+pub fn print<R: Rules>(input: &[u8]) -> String {
+    match plan_text::<R>(input) {
+        Ok(text) => text,
+        Err(Refusal { number, row, node }) => format!("REFUSED {number} {row} {node}\n"),
+    }
+}
+
+/// The lines of the plan: 14 above 65,536 bytes, then N and K, then 14 unless the length is just
+/// that of the three files, then their readers in turn, then the converter's refusals.
+fn plan_text<R: Rules>(bytes: &[u8]) -> Result<String, Refusal> {
+    refuse_if(bytes.len() > MOST_BYTES, 14, 0, 0)?;
+    let size = R::program_size(bytes)?;
+    let ends = file_ends(size);
+    refuse_if(bytes.len() != ends[2], 14, 0, 0)?;
+    let files = [&bytes[..ends[0]], &bytes[ends[0]..ends[1]], &bytes[ends[1]..]];
+    let [corridor, demands, record] = read_three::<R>(size, files)?;
+    let input = Input::new(&corridor, &demands)?;
+    R::test_input(&input)?;
+    R::check_record(&input, &record)?;
+    Ok(lines::<R>(&input, &record))
+}
+
+/// Where the corridor's, the demands' and the record's file end.
+pub fn file_ends(size: Size) -> [usize; 3] {
+    let corridor = Kind::Corridor.bytes(size);
+    let demands = corridor + Kind::Demands.bytes(size);
+    [corridor, demands, demands + Kind::Record.bytes(size)]
+}
+
+/// N is word 2 of the corridor's first block, K that of the demands' first block; N is judged
+/// before K is looked for.
+pub fn program_size(bytes: &[u8]) -> Result<Size, Refusal> {
+    let n = word_two(bytes, 0)?;
+    let corridor_end = file_ends(Size::new(n, 1)?)[0];
+    Size::new(n, word_two(bytes, corridor_end)?)
+}
+
+/// Word 2 of the block that begins at a byte; 14 if the input ends before its last byte.
+fn word_two(bytes: &[u8], block: usize) -> Result<u32, Refusal> {
+    let word = bytes.get(block + 8..block + 12).ok_or(refusal(14, 0, 0))?;
+    Ok(words_of(word)[0])
+}
+
+/// The first line, then one line for each step and node.
+fn lines<R: Rules>(input: &Input, record: &[u32]) -> String {
+    let cost = R::cost(input.size, record);
+    let mut text = format!("PLAN {} {} {cost}\n", input.size.steps, input.size.nodes());
+    for k in 0..input.size.steps {
+        for i in 0..input.size.nodes() {
+            let setting = setting_at::<R>(input, record, k, i);
+            let (rate, limit) = rate_and_limit(input, i, setting);
+            let letter = match setting {
+                Setting::Full(_) => 'F',
+                Setting::Held(..) => 'H',
+            };
+            text += &format!("{k} {} {rate} {limit} {letter}\n", input.node(i).identifier);
+        }
+    }
+    text
+}

@@ -1,0 +1,187 @@
+//! The rules of document 01 that everything else is made of, one function each, so that a wrong
+//! variant of the model differs from the paper in just one of them.
+
+use super::{check, convert, files, lists, Input, Outcome, Refusal, Setting, Size, WHOLE};
+
+/// One node at one step: all that rules 1 to 5 use, taken from the state at the step's start.
+#[derive(Clone, Copy, Debug)]
+pub struct NodeStep {
+    pub capacity: u64,
+    pub full_speed: u64,
+    pub ramp_capacity: u64,
+    pub vehicles: u64,
+    pub queue: u64,
+    pub arrivals: u64,
+    pub split: u64,
+    /// S of the next link; none at node N, past which traffic is always free.
+    pub receiving: Option<u64>,
+}
+
+impl NodeStep {
+    /// Node i at step k; `state` holds the n, l, f, r of all nodes in state k.
+    pub fn new<R: Rules>(input: &Input, state: &[u32], k: usize, i: usize) -> NodeStep {
+        let node = input.node(i);
+        let next = (i < input.size.links).then(|| R::receiving(input, state, i + 1));
+        NodeStep {
+            capacity: node.capacity.into(),
+            full_speed: node.full_speed.into(),
+            ramp_capacity: node.ramp_capacity.into(),
+            vehicles: state[lists::RECORD_WORDS * i].into(),
+            queue: state[lists::RECORD_WORDS * i + 1].into(),
+            arrivals: input.arrivals(k, i),
+            split: input.split(k, i),
+            receiving: next,
+        }
+    }
+}
+
+/// Rules 1 to 5 together: f and r of a node with that rate and that posted limit.
+pub fn flows<R: Rules>(at: &NodeStep, rate: u64, limit: u64) -> (u64, u64) {
+    R::merge(at, R::sending(at, limit), R::ramp_offer(at, rate))
+}
+
+/// The rules, each as the paper says it unless a variant replaces it.
+pub trait Rules: Sync + Sized {
+    /// Tests of the corridor; each runs over all nodes before the next starts.
+    const CORRIDOR_ORDER: [u32; 3] = [2, 3, 4];
+    /// Tests of a record at one node and step.
+    const NODE_ORDER: [u32; 5] = [8, 9, 10, 11, 12];
+    /// Tests of one block of a file.
+    const BLOCK_ORDER: [u32; 3] = [15, 16, 17];
+
+    /// Rule 1. Node 0 has no link: its n and F are zero, and so is D.
+    fn sending(at: &NodeStep, limit: u64) -> u64 {
+        (at.vehicles * limit / WHOLE).min(at.capacity)
+    }
+
+    /// Rule 2. What leaves by the off-ramp is rounded down, so the through part is not.
+    fn through(flow: u64, split: u64) -> u64 {
+        flow - flow * split / WHOLE
+    }
+
+    /// Rule 3. Node N has no ramp: its l and C are zero, and so is d.
+    fn ramp_offer(at: &NodeStep, rate: u64) -> u64 {
+        at.queue.min(at.ramp_capacity).min(rate)
+    }
+
+    /// Rule 4 for one link.
+    fn receiving(input: &Input, state: &[u32], link: usize) -> u64 {
+        let node = input.node(link);
+        let vehicles = u64::from(state[lists::RECORD_WORDS * link]);
+        let room = u64::from(node.wave_speed) * (u64::from(node.jam) - vehicles) / WHOLE;
+        room.min(node.capacity.into())
+    }
+
+    /// Rule 5. R > S leaves no R of zero to divide by.
+    fn merge(at: &NodeStep, sending: u64, offer: u64) -> (u64, u64) {
+        let wanted = Self::through(sending, at.split) + offer;
+        match at.receiving {
+            Some(room) if wanted > room => (sending * room / wanted, offer * room / wanted),
+            _ => (sending, offer),
+        }
+    }
+
+    /// Rule 6 for a link that takes in `inflow` and sends off `flow`.
+    fn next_vehicles(vehicles: u64, inflow: u64, flow: u64) -> u64 {
+        vehicles + inflow - flow
+    }
+
+    /// Rule 6 for a queue: arrivals join it after the ramp flow has left.
+    fn next_queue(queue: u64, arrivals: u64, ramp_flow: u64) -> u64 {
+        queue + arrivals - ramp_flow
+    }
+
+    /// Total cost: the sum of all n and l over states 1..K.
+    fn cost(size: Size, record: &[u32]) -> u64 {
+        let states = &record[size.record_place(1, 0)..size.record_place(size.steps + 1, 0)];
+        let entries = states.chunks_exact(lists::RECORD_WORDS);
+        entries.map(|entry| u64::from(entry[0]) + u64::from(entry[1])).sum()
+    }
+
+    /// Whether refusal 2, 3 or 4 is due at node i.
+    fn node_fault(number: u32, input: &Input, i: usize) -> bool {
+        match number {
+            2 => lists::link_fault(input, i),
+            3 => lists::ramp_fault(input, i),
+            _ => lists::start_fault(input, i),
+        }
+    }
+
+    /// Whether refusal 5 is due at step k, node i.
+    fn demand_fault(input: &Input, k: usize, i: usize) -> bool {
+        lists::demand_fault(input, k, i)
+    }
+
+    /// Refusals 2 to 5.
+    fn test_input(input: &Input) -> Outcome {
+        lists::test_input::<Self>(input)
+    }
+
+    /// Whether refusal 6 is due for that rate and limit of node i.
+    fn plan_fault(input: &Input, i: usize, rate: u32, limit: u32) -> bool {
+        lists::plan_fault(input, i, rate, limit)
+    }
+
+    /// Whether refusal 7 is due at state k, node i.
+    fn fixed_fault(input: &Input, record: &[u32], k: usize, i: usize) -> bool {
+        check::fixed_fault(input, record, k, i)
+    }
+
+    /// Whether refusal 8, 9, 10, 11 or 12 is due at a node and step.
+    fn step_fault(number: u32, here: &check::Proposal) -> bool {
+        check::step_fault::<Self>(number, here)
+    }
+
+    /// Refusals 7 to 13.
+    fn check_record(input: &Input, record: &[u32]) -> Outcome {
+        check::check_record::<Self>(input, record)
+    }
+
+    /// The smallest rate in 0..C that gives exactly f and r at full speed, if there is one.
+    fn find_rate(at: &NodeStep, flow: u64, ramp_flow: u64) -> Option<u64> {
+        convert::rate_by_halving::<Self>(at, flow, ramp_flow)
+    }
+
+    /// The smallest v with n × v / 65,536 = f. Only asked for where n is not zero, as a node
+    /// without vehicles is full.
+    fn held_limit(at: &NodeStep, flow: u64) -> u64 {
+        (flow * WHOLE).div_ceil(at.vehicles)
+    }
+
+    /// Full if some rate at full speed gives the flows, held otherwise.
+    fn setting(at: &NodeStep, flow: u64, ramp_flow: u64) -> Setting {
+        let Some(rate) = Self::find_rate(at, flow, ramp_flow) else {
+            return Setting::Held(ramp_flow, Self::held_limit(at, flow));
+        };
+        Setting::Full(rate)
+    }
+
+    /// Word 127 of a block.
+    fn check_word(block: &[u32]) -> u32 {
+        files::check_word(block)
+    }
+
+    /// The words of a file, or refusal 14 to 18, or 1 for a differing own N or K.
+    fn read_list(kind: files::Kind, size: Size, file: &[u8]) -> Result<Vec<u32>, Refusal> {
+        files::read_list::<Self>(kind, size, file)
+    }
+
+    /// N and K that the program takes from its input.
+    fn program_size(input: &[u8]) -> Result<Size, Refusal> {
+        super::program::program_size(input)
+    }
+}
+
+/// The paper, with the search for a rate in the plainest way: every rate from 0 on.
+pub struct Paper;
+
+impl Rules for Paper {
+    fn find_rate(at: &NodeStep, flow: u64, ramp_flow: u64) -> Option<u64> {
+        convert::rate_from_zero::<Self>(at, flow, ramp_flow)
+    }
+}
+
+/// The paper, with the search by halving, for long ramps. The tests hold it against `Paper`.
+pub struct Quick;
+
+impl Rules for Quick {}

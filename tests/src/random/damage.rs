@@ -1,0 +1,212 @@
+//! Cases with damage: words changed, flows moved by one, lists cut and extended, wrong N and K,
+//! records that break rules; and the mixes of cases that the tests run.
+
+use super::records::faulty_record;
+use super::sound::{sound_case, WordCase};
+use super::Random;
+use crate::model::lists::{test_input, MOST_LINKS, MOST_STEPS, NODE_WORDS};
+use crate::model::{Input, Quick, Size};
+
+/// A size with at most that many links and steps.
+pub fn size(random: &mut Random, links: u64, steps: u64) -> Size {
+    let n = random.within(1, links) as u32;
+    let k = random.within(1, steps) as u32;
+    Size::new(n, k).expect("asked for within limits")
+}
+
+/// The largest size.
+pub fn full_size() -> Size {
+    Size::new(MOST_LINKS, MOST_STEPS).expect("the limits themselves")
+}
+
+/// A small case, now and then one of middle size, in which a cost can pass 32 bits.
+pub fn small_case(random: &mut Random) -> WordCase {
+    let size = match random.one_in(16) {
+        true => size(random, 20, 30),
+        false => size(random, 6, 6),
+    };
+    mixed_case(random, size, false)
+}
+
+/// A small case whose ramps are short enough to search every rate.
+pub fn short_ramp_case(random: &mut Random) -> WordCase {
+    let size = size(random, 6, 6);
+    mixed_case(random, size, true)
+}
+
+/// A large case, up to the limits, some at them.
+pub fn large_case(random: &mut Random) -> WordCase {
+    let size = match random.one_in(8) {
+        true => full_size(),
+        false => size(random, MOST_LINKS.into(), MOST_STEPS.into()),
+    };
+    mixed_case(random, size, false)
+}
+
+/// Half of these cases are sound, half damaged once or twice.
+pub fn mixed_case(random: &mut Random, size: Size, short_ramps: bool) -> WordCase {
+    let mut case = sound_case(random, size, short_ramps);
+    if random.one_in(2) {
+        return case;
+    }
+    damage(random, &mut case);
+    if random.one_in(4) {
+        damage(random, &mut case);
+    }
+    case
+}
+
+/// One kind of damage.
+fn damage(random: &mut Random, case: &mut WordCase) {
+    match random.below(30) {
+        0..=2 => change_words(random, &mut case.corridor),
+        3 | 4 => change_words(random, &mut case.demands),
+        5 | 6 => change_words(random, &mut case.plan),
+        7 | 8 => change_words(random, &mut case.record),
+        9 => repeat_identifier(random, &mut case.corridor),
+        10 | 11 => change_cost(random, &mut case.record),
+        12 => cut_or_extend_one(random, case),
+        13 => change_lent(random, case),
+        14 => change_count(random, case),
+        15 | 16 => change_state(random, case),
+        17 => move_flow(random, case),
+        18 | 19 => overfill_start(random, &mut case.corridor),
+        20 | 21 => change_fixed(random, case),
+        _ => propose_faulty(random, case),
+    }
+}
+
+fn change_words(random: &mut Random, words: &mut [u32]) {
+    for _ in 0..random.within(1, 3) {
+        if !words.is_empty() {
+            let place = random.below(words.len());
+            words[place] = random.strange_word(words[place]);
+        }
+    }
+}
+
+/// One node's identifier in the place of another's.
+fn repeat_identifier(random: &mut Random, corridor: &mut [u32]) {
+    let nodes = corridor.len().saturating_sub(1) / NODE_WORDS;
+    if nodes > 0 {
+        let (from, to) = (random.below(nodes), random.below(nodes));
+        corridor[1 + NODE_WORDS * to] = corridor[1 + NODE_WORDS * from];
+    }
+}
+
+/// Changes one of the last two words.
+fn change_cost(random: &mut Random, record: &mut [u32]) {
+    let back = random.below(2) + 1;
+    if let Some(place) = record.len().checked_sub(back) {
+        record[place] = random.strange_word(record[place]);
+    }
+}
+
+/// Makes a list longer or shorter: by one, by some, or empty.
+pub fn cut_or_extend<T: Copy + Default>(random: &mut Random, list: &mut Vec<T>) {
+    let by = random.pick(&[1, 1, 2, 9, 512]);
+    match random.below(5) {
+        0 | 1 => list.truncate(list.len().saturating_sub(by)),
+        2 | 3 => list.resize(list.len() + by, T::default()),
+        _ => list.clear(),
+    }
+}
+
+fn cut_or_extend_one(random: &mut Random, case: &mut WordCase) {
+    match random.below(4) {
+        0 => cut_or_extend(random, &mut case.corridor),
+        1 => cut_or_extend(random, &mut case.demands),
+        2 => cut_or_extend(random, &mut case.plan),
+        _ => cut_or_extend(random, &mut case.record),
+    }
+}
+
+/// Another length of a lent list: beside the right one, twice that, or nothing.
+pub fn other_length(random: &mut Random, length: usize) -> usize {
+    match random.below(6) {
+        0 | 1 => length + 1,
+        2 | 3 => length.saturating_sub(1),
+        4 => 2 * length,
+        _ => 0,
+    }
+}
+
+fn change_lent(random: &mut Random, case: &mut WordCase) {
+    match random.one_in(2) {
+        true => case.lent_record = other_length(random, case.lent_record),
+        false => case.lent_plan = other_length(random, case.lent_plan),
+    }
+}
+
+/// Another N or K as a list's first word.
+fn change_count(random: &mut Random, case: &mut WordCase) {
+    let list = match random.one_in(2) {
+        true => &mut case.corridor,
+        false => &mut case.demands,
+    };
+    if let Some(count) = list.first_mut() {
+        *count = random.strange_word(*count);
+    }
+}
+
+/// Corridor and demands if their lengths are still right, as later damage needs.
+fn input_of<'a>(case: &'a WordCase) -> Option<Input<'a>> {
+    let input = Input::new(&case.corridor, &case.demands).ok()?;
+    (input.size.record() == case.record.len()).then_some(input)
+}
+
+/// A flow one more or one less, without anything else following.
+fn move_flow(random: &mut Random, case: &mut WordCase) {
+    if let Some(size) = input_of(case).map(|input| input.size) {
+        let (k, i) = (random.below(size.steps), random.below(size.nodes()));
+        let place = size.record_place(k, i) + 2 + random.below(2);
+        let by = random.pick(&[1, u32::MAX]);
+        case.record[place] = case.record[place].wrapping_add(by);
+    }
+}
+
+/// An n or l of some state one more or one less, without anything else following.
+fn change_state(random: &mut Random, case: &mut WordCase) {
+    if let Some(size) = input_of(case).map(|input| input.size) {
+        let (k, i) = (random.below(size.steps + 1), random.below(size.nodes()));
+        let place = size.record_place(k, i) + random.below(2);
+        let by = random.pick(&[1, u32::MAX]);
+        case.record[place] = case.record[place].wrapping_add(by);
+    }
+}
+
+/// One more vehicle than the jam, or one more in the queue than its limit, at the start.
+fn overfill_start(random: &mut Random, corridor: &mut [u32]) {
+    let nodes = corridor.len().saturating_sub(1) / NODE_WORDS;
+    if nodes > 0 {
+        let node = 1 + NODE_WORDS * random.below(nodes);
+        let (limit, start) = random.pick(&[(4, 7), (6, 8)]);
+        corridor[node + start] = corridor[node + limit].wrapping_add(1);
+    }
+}
+
+/// A fixed zero, or a word of state 0, that is not what it should be.
+fn change_fixed(random: &mut Random, case: &mut WordCase) {
+    let Some(size) = input_of(case).map(|input| input.size) else {
+        return;
+    };
+    let (k, i) = (random.below(size.steps + 1), random.below(size.nodes()));
+    let half = random.below(2);
+    let place = match random.below(4) {
+        0 => size.record_place(0, i) + half,
+        1 => size.record_place(size.steps, i) + 2 + half,
+        2 => size.record_place(k, 0) + 2 * half,
+        _ => size.record_place(k, size.links) + 1 + 2 * half,
+    };
+    case.record[place] = random.strange_word(case.record[place]);
+}
+
+/// A whole record that breaks rules in one step and is consistent otherwise. It takes sound
+/// lists, so a case damaged before keeps its record.
+fn propose_faulty(random: &mut Random, case: &mut WordCase) {
+    let sound = |input: &Input| test_input::<Quick>(input).is_ok();
+    let record = input_of(case).filter(sound).map(|input| faulty_record(random, &input));
+    if let Some(record) = record {
+        case.record = record;
+    }
+}

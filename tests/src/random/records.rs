@@ -1,0 +1,146 @@
+//! Records: of a plan, with flows chosen freely among those allowed, and with flows that break
+//! chosen rules while everything after them follows from them.
+
+use super::Random;
+use crate::model::check::flow_fault;
+use crate::model::rules::flows;
+use crate::model::simulate::{entry, inflow, run, start, write_cost};
+use crate::model::{check, Input, NodeStep, Quick, Rules};
+
+pub fn record_of_plan(input: &Input, plan: &[u32]) -> Vec<u32> {
+    let mut record = vec![0; input.size.record()];
+    run::<Quick>(input, plan, &mut record);
+    record
+}
+
+/// The record whose flows `choose` gives for each step and node. Each next state and the cost
+/// follow from them, also where they are wrong; once a state is beyond use, nothing flows.
+pub fn record_of_flows(
+    input: &Input,
+    mut choose: impl FnMut(usize, usize, &NodeStep) -> (u64, u64),
+) -> Vec<u32> {
+    let mut record = vec![0; input.size.record()];
+    start(input, &mut record);
+    let mut usable = true;
+    for k in 0..input.size.steps {
+        for i in (0..input.size.nodes()).filter(|_| usable) {
+            let at = NodeStep::new::<Quick>(input, check::state(input, &record, k), k, i);
+            let (flow, ramp_flow) = choose(k, i, &at);
+            let place = input.size.record_place(k, i);
+            record[place + 2] = flow as u32;
+            record[place + 3] = ramp_flow as u32;
+        }
+        usable &= next_state(input, k, &mut record);
+    }
+    write_cost(Quick::cost(input.size, &record), &mut record);
+    record
+}
+
+/// Rule 6 in words that wrap around; whether the next state is one that rules can be used on.
+fn next_state(input: &Input, k: usize, record: &mut [u32]) -> bool {
+    let mut usable = true;
+    for i in 0..input.size.nodes() {
+        let state = check::state(input, record, k);
+        let [vehicles, queue, flow, ramp_flow] = entry(state, i);
+        let gained = vehicles + inflow::<Quick>(input, k, state, i);
+        let waiting = queue + input.arrivals(k, i);
+        let place = input.size.record_place(k + 1, i);
+        record[place] = gained.wrapping_sub(flow) as u32;
+        record[place + 1] = waiting.wrapping_sub(ramp_flow) as u32;
+        usable &= flow <= gained && ramp_flow <= waiting && record[place] <= input.node(i).jam;
+    }
+    usable
+}
+
+/// A record that breaks no rule but, where queue limits are small, 12.
+pub fn free_record(random: &mut Random, input: &Input) -> Vec<u32> {
+    record_of_flows(input, |_, _, at| allowed_flows(random, at))
+}
+
+/// Flows that 8, 9 and 10 permit: at full speed, at some limit, one beside such, or any.
+pub fn allowed_flows(random: &mut Random, at: &NodeStep) -> (u64, u64) {
+    let rate = random.within(0, at.ramp_capacity);
+    let limit = match random.one_in(2) {
+        true => at.full_speed,
+        false => random.within(0, at.full_speed),
+    };
+    match random.below(3) {
+        0 => flows::<Quick>(at, rate, limit),
+        1 => beside(random, at, flows::<Quick>(at, rate, limit)),
+        _ => any_allowed(random, at),
+    }
+}
+
+/// Flows one more or one less than those given, if permitted; otherwise those given.
+fn beside(random: &mut Random, at: &NodeStep, (flow, ramp_flow): (u64, u64)) -> (u64, u64) {
+    let flow_beside = (flow + random.within(0, 2)).saturating_sub(1);
+    let ramp_beside = (ramp_flow + random.within(0, 2)).saturating_sub(1);
+    match first_fault(at, (flow_beside, ramp_beside)) {
+        Some(_) => (flow, ramp_flow),
+        None => (flow_beside, ramp_beside),
+    }
+}
+
+fn any_allowed(random: &mut Random, at: &NodeStep) -> (u64, u64) {
+    let most_ramp = at.queue.min(at.ramp_capacity);
+    let flow = random.within(0, Quick::sending(at, at.full_speed));
+    let Some(room) = at.receiving else {
+        return (flow, random.within(0, most_ramp));
+    };
+    // Without a ramp the merge brings any flow down to one that there is room for.
+    let (flow, _) = Quick::merge(at, flow, 0);
+    let left = room - Quick::through(flow, at.split);
+    (flow, random.within(0, most_ramp.min(left)))
+}
+
+/// A record that breaks 8, 9 or 10 at one place, where just that can be broken, perhaps other rules
+/// at other nodes of the same step, and none before. All that follows is as rule 6 says.
+pub fn faulty_record(random: &mut Random, input: &Input) -> Vec<u32> {
+    let number = random.pick(&[8, 9, 10]);
+    let from = (random.below(input.size.steps), random.below(input.size.nodes()));
+    let more_faults = random.one_in(3);
+    let mut faulty_step = None;
+    record_of_flows(input, |k, i, at| {
+        let wrong = faulty_flows(random, input, i, at, number);
+        if faulty_step.is_none() && (k, i) >= from && first_fault(at, wrong) == Some(number) {
+            faulty_step = Some(k);
+            return wrong;
+        }
+        if more_faults && faulty_step == Some(k) && random.one_in(2) {
+            let other = random.pick(&[8, 9, 10]);
+            return faulty_flows(random, input, i, at, other);
+        }
+        allowed_flows(random, at)
+    })
+}
+
+/// Which of refusals 8, 9 and 10 those flows meet first.
+fn first_fault(at: &NodeStep, (flow, ramp_flow): (u64, u64)) -> Option<u32> {
+    [8, 9, 10].into_iter().find(|&number| flow_fault::<Quick>(number, at, flow, ramp_flow))
+}
+
+/// Flows meant to break the rule of that number, by one or by much; fixed zeros stay.
+fn faulty_flows(
+    random: &mut Random,
+    input: &Input,
+    i: usize,
+    at: &NodeStep,
+    number: u32,
+) -> (u64, u64) {
+    let excess = match random.below(8) {
+        0 => random.within(1, u32::MAX.into()),
+        1 => u32::MAX.into(),
+        _ => 1,
+    };
+    let (allowed, allowed_ramp) = any_allowed(random, at);
+    let (some_flow, some_ramp) = random.pick(&[(0, 0), (allowed, allowed_ramp)]);
+    let room = at.receiving.unwrap_or(0) + excess;
+    let (flow, ramp_flow) = match number {
+        8 => (Quick::sending(at, at.full_speed) + excess, some_ramp),
+        9 => (allowed, room.saturating_sub(Quick::through(allowed, at.split))),
+        _ => (some_flow, at.queue.min(at.ramp_capacity) + excess),
+    };
+    let flow = if i == 0 { 0 } else { flow };
+    let ramp_flow = if i == input.size.links { 0 } else { ramp_flow };
+    (flow.min(u32::MAX.into()), ramp_flow.min(u32::MAX.into()))
+}

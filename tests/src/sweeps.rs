@@ -1,0 +1,147 @@
+//! Cases that differ from a given one in one place, every place in turn: each word set to each
+//! limit of some range and to the words beside its own, each list and each lent list of another
+//! length. What random damage may miss, these do not.
+
+use crate::model::files::{BLOCK_BYTES, CHECK, KINDS};
+use crate::model::{Kind, Size};
+use crate::random::files::{change_block, file_of, FileCase};
+use crate::random::sound::WordCase;
+
+/// Zero and one, the limits in document 01 and the words beyond them.
+const EDGES: [u32; 14] = [
+    0,
+    1,
+    64,
+    65,
+    1_440,
+    1_441,
+    32_768,
+    65_535,
+    65_536,
+    65_537,
+    134_217_728,
+    134_217_729,
+    1 << 31,
+    u32::MAX,
+];
+
+fn other_words(old: u32) -> Vec<u32> {
+    let beside = [old.wrapping_add(1), old.wrapping_sub(1)];
+    EDGES.into_iter().chain(beside).filter(|&word| word != old).collect()
+}
+
+/// The four lists of a case, to change one of them.
+fn list(case: &mut WordCase, number: usize) -> &mut Vec<u32> {
+    match number {
+        0 => &mut case.corridor,
+        1 => &mut case.demands,
+        2 => &mut case.plan,
+        _ => &mut case.record,
+    }
+}
+
+/// Calls `visit` with every case in which one word of one list is another.
+pub fn each_word_changed(case: &WordCase, mut visit: impl FnMut(&WordCase)) {
+    let mut changed = case.clone();
+    for number in 0..4 {
+        for place in 0..list(&mut changed, number).len() {
+            let old = list(&mut changed, number)[place];
+            for word in other_words(old) {
+                list(&mut changed, number)[place] = word;
+                visit(&changed);
+            }
+            list(&mut changed, number)[place] = old;
+        }
+    }
+}
+
+/// Lengths beside the right one, and far from it.
+fn other_lengths(length: usize) -> [usize; 5] {
+    [0, 1, length - 1, length + 1, 2 * length]
+}
+
+/// Calls `visit` with every case in which one list, or one lent list, has another length.
+pub fn each_length_changed(case: &WordCase, mut visit: impl FnMut(&WordCase)) {
+    for number in 0..4 {
+        for length in other_lengths(list(&mut case.clone(), number).len()) {
+            let mut changed = case.clone();
+            list(&mut changed, number).resize(length, 0);
+            visit(&changed);
+        }
+    }
+    for lent_record in other_lengths(case.lent_record) {
+        visit(&WordCase { lent_record, ..case.clone() });
+    }
+    for lent_plan in other_lengths(case.lent_plan) {
+        visit(&WordCase { lent_plan, ..case.clone() });
+    }
+}
+
+/// A file of every kind at that size; its words are the places they stand at, under its own N or K.
+fn counting_file(kind: Kind, size: Size) -> FileCase {
+    let (n, k) = (size.links as u32, size.steps as u32);
+    let mut words: Vec<u32> = (0..kind.words(size) as u32).collect();
+    words[0] = [n, k, 0, 0][kind as usize - 1];
+    FileCase {
+        kind,
+        n,
+        k,
+        file: file_of(kind, &words),
+        lent_words: words.len(),
+        lent_file: kind.bytes(size),
+        words,
+    }
+}
+
+/// Calls `visit` with files of every kind at that size in which one word is another, with the
+/// check word made right and without, and with one byte of each block flipped.
+pub fn each_file_word_changed(size: Size, mut visit: impl FnMut(&FileCase)) {
+    for kind in KINDS {
+        let case = counting_file(kind, size);
+        for block in 0..case.file.len() / BLOCK_BYTES {
+            for place in 0..=CHECK {
+                for word in [0, 1, 2, 3, 4, u32::MAX] {
+                    let mut changed = case.clone();
+                    change_block(&mut changed.file, block, place, |_| word);
+                    visit(&changed);
+                }
+                let mut changed = case.clone();
+                changed.file[BLOCK_BYTES * block + 4 * place + place % 4] ^= 1;
+                visit(&changed);
+            }
+        }
+    }
+}
+
+/// Calls `visit` with files of every kind for which another N or K is told, as far as the limits
+/// and beyond, the lent lists having the lengths of that size or of the file's own.
+pub fn each_count_told(size: Size, mut visit: impl FnMut(&FileCase)) {
+    let beyond = [255, 256, 1_439, 1_440, 1_441, 65_536, 65_537, 1 << 31, u32::MAX];
+    for kind in KINDS {
+        let case = counting_file(kind, size);
+        for count in (0..=70).chain(beyond) {
+            for (n, k) in [(count, case.k), (case.n, count)] {
+                let told = FileCase { n, k, ..case.clone() };
+                visit(&told);
+                if let Ok(size) = Size::new(n, k) {
+                    let (lent_words, lent_file) = (kind.words(size), kind.bytes(size));
+                    visit(&FileCase { lent_words, lent_file, ..told });
+                }
+            }
+        }
+    }
+}
+
+/// Calls `visit` with files of every kind cut and extended to every length up to one block more
+/// than they have, in steps that meet all block ends.
+pub fn each_file_length(size: Size, mut visit: impl FnMut(&FileCase)) {
+    for kind in KINDS {
+        let case = counting_file(kind, size);
+        let longest = case.file.len() + BLOCK_BYTES;
+        for length in (0..=longest).filter(|length| (length + 2) % BLOCK_BYTES < 5) {
+            let mut changed = case.clone();
+            changed.file.resize(length, 0);
+            visit(&changed);
+        }
+    }
+}

@@ -1,0 +1,284 @@
+//! What the benchmarks measure against: straightforward optimised Rust for the same work, tests of
+//! the input included. What is refused, and what is not timed, goes to the model.
+
+use crate::calls::{FileCalls, WordCalls};
+use crate::model::files::{BLOCK_BYTES, CHECK, FIRST_PAYLOAD, PAYLOAD_WORDS};
+use crate::model::lists::{test_input, test_plan};
+use crate::model::simulate::{start, write_cost};
+use crate::model::{Input, Kind, Node, Quick, Size};
+
+pub struct Yardstick;
+
+/// The nodes of an input that refusals 1 to 5 let pass.
+fn accepted<'a>(corridor: &'a [u32], demands: &'a [u32]) -> Option<(Input<'a>, Vec<Node>)> {
+    let input = Input::new(corridor, demands).ok()?;
+    test_input::<Quick>(&input).ok()?;
+    Some((input, (0..input.size.nodes()).map(|i| input.node(i)).collect()))
+}
+
+/// One node at one step, with all that does not depend on rate and limit worked out.
+struct Place {
+    node: Node,
+    vehicles: u64,
+    queue: u64,
+    arrivals: u64,
+    split: u64,
+    room: u64,
+}
+
+impl Place {
+    #[inline]
+    fn new(nodes: &[Node], demands: &[u32], state: &[u32], i: usize) -> Place {
+        let room = nodes.get(i + 1).map_or(u64::MAX, |next| {
+            let free = u64::from(next.jam - state[4 * i + 4]);
+            ((u64::from(next.wave_speed) * free) >> 16).min(next.capacity.into())
+        });
+        Place {
+            node: nodes[i],
+            vehicles: state[4 * i].into(),
+            queue: state[4 * i + 1].into(),
+            arrivals: demands[2 * i].into(),
+            split: demands[2 * i + 1].into(),
+            room,
+        }
+    }
+
+    #[inline]
+    fn sending(&self, limit: u32) -> u64 {
+        ((self.vehicles * u64::from(limit)) >> 16).min(self.node.capacity.into())
+    }
+
+    #[inline]
+    fn through(&self, flow: u64) -> u64 {
+        flow - ((flow * self.split) >> 16)
+    }
+
+    #[inline]
+    fn ramp(&self) -> u64 {
+        self.queue.min(self.node.ramp_capacity.into())
+    }
+
+    #[inline]
+    fn merge(&self, sending: u64, through: u64, offer: u64) -> (u64, u64) {
+        let wanted = through + offer;
+        if wanted <= self.room {
+            return (sending, offer);
+        }
+        (sending * self.room / wanted, offer * self.room / wanted)
+    }
+
+    /// Rate and limit for the flows of an accepted record.
+    fn setting(&self, flow: u64, ramp_flow: u64) -> (u32, u32) {
+        let sending = self.sending(self.node.full_speed);
+        let (through, ramp) = (self.through(sending), self.ramp());
+        // A rate above what the ramp can offer gives what that rate itself gives.
+        let (mut low, mut high) = (0, ramp);
+        while low < high {
+            let rate = (low + high) / 2;
+            let (f, r) = self.merge(sending, through, rate);
+            if f <= flow && r >= ramp_flow {
+                high = rate;
+            } else {
+                low = rate + 1;
+            }
+        }
+        if self.merge(sending, through, low) == (flow, ramp_flow) {
+            return (low as u32, self.node.full_speed);
+        }
+        (ramp_flow as u32, (flow << 16).div_ceil(self.vehicles) as u32)
+    }
+}
+
+/// The two states of step k and the step's part of the demands.
+fn step_lists<'a>(
+    size: Size,
+    demands: &'a [u32],
+    record: &'a [u32],
+    k: usize,
+) -> (&'a [u32], &'a [u32], &'a [u32]) {
+    let (state, next) = record[size.record_place(k, 0)..size.record_place(k + 2, 0)]
+        .split_at(size.record_place(1, 0));
+    (state, next, step_demands(size, demands, k))
+}
+
+fn step_demands(size: Size, demands: &[u32], k: usize) -> &[u32] {
+    &demands[1 + 2 * size.nodes() * k..1 + 2 * size.nodes() * (k + 1)]
+}
+
+/// One step of the simulation; gives the next state's part of the cost.
+fn step(nodes: &[Node], demands: &[u32], plan: &[u32], state: &mut [u32], next: &mut [u32]) -> u64 {
+    let (mut inflow, mut cost) = (0, 0);
+    for i in 0..nodes.len() {
+        let place = Place::new(nodes, demands, state, i);
+        let sending = place.sending(plan[2 * i + 1]);
+        let offer = place.ramp().min(plan[2 * i].into());
+        let (flow, ramp_flow) = place.merge(sending, place.through(sending), offer);
+        let vehicles = place.vehicles + inflow - flow;
+        let queue = place.queue + place.arrivals - ramp_flow;
+        (state[4 * i + 2], state[4 * i + 3]) = (flow as u32, ramp_flow as u32);
+        (next[4 * i], next[4 * i + 1]) = (vehicles as u32, queue as u32);
+        inflow = place.through(flow) + ramp_flow;
+        cost += vehicles + queue;
+    }
+    cost
+}
+
+/// One step of a record; gives the next state's part of the cost, or nothing if a rule is broken.
+fn check_step(nodes: &[Node], demands: &[u32], state: &[u32], next: &[u32]) -> Option<u64> {
+    let (mut inflow, mut cost) = (0, 0);
+    for i in 0..nodes.len() {
+        let place = Place::new(nodes, demands, state, i);
+        let (flow, ramp_flow) = (u64::from(state[4 * i + 2]), u64::from(state[4 * i + 3]));
+        let (vehicles, queue) = (u64::from(next[4 * i]), u64::from(next[4 * i + 1]));
+        let merged = place.through(flow) + ramp_flow;
+        let flows = flow <= place.sending(place.node.full_speed) && ramp_flow <= place.ramp();
+        let fits = i + 1 == nodes.len() || merged <= place.room;
+        let states = vehicles + flow == place.vehicles + inflow
+            && queue + ramp_flow == place.queue + place.arrivals;
+        if !(flows && fits && states && queue <= place.node.queue_limit.into()) {
+            return None;
+        }
+        inflow = merged;
+        cost += vehicles + queue;
+    }
+    Some(cost)
+}
+
+/// Whether state 0 and the fixed zeros are as refusal 7 wants them.
+fn fixed_words(nodes: &[Node], size: Size, record: &[u32]) -> bool {
+    let start = nodes.iter().zip(record.chunks_exact(4));
+    let mut states = record[..record.len() - 2].chunks_exact(4 * nodes.len());
+    let last = &record[size.record_place(size.steps, 0)..record.len() - 2];
+    let end = 4 * size.links;
+    start.into_iter().all(|(node, entry)| entry[..2] == [node.start_vehicles, node.start_queue])
+        && states.all(|s| (s[0], s[2], s[end + 1], s[end + 3]) == (0, 0, 0, 0))
+        && last.chunks_exact(4).all(|entry| entry[2..] == [0, 0])
+}
+
+/// Whether refusals 7 to 13 let a record pass.
+fn sound_record(input: &Input, nodes: &[Node], demands: &[u32], record: &[u32]) -> bool {
+    let size = input.size;
+    if record.len() != size.record() || !fixed_words(nodes, size, record) {
+        return false;
+    }
+    let cost = (0..size.steps).try_fold(0, |cost, k| {
+        let (state, next, demands) = step_lists(size, demands, record, k);
+        Some(cost + check_step(nodes, demands, state, next)?)
+    });
+    let end = size.record() - 2;
+    cost == Some(u64::from(record[end]) | u64::from(record[end + 1]) << 32)
+}
+
+impl WordCalls for Yardstick {
+    fn simulate(&self, corridor: &[u32], demands: &[u32], plan: &[u32], record: &mut [u32]) -> u32 {
+        let fits =
+            |input: &Input| plan.len() == input.size.plan() && record.len() == input.size.record();
+        let found = accepted(corridor, demands).filter(|(input, _)| fits(input));
+        let Some((input, nodes)) =
+            found.filter(|(input, _)| test_plan::<Quick>(input, plan).is_ok())
+        else {
+            return Quick.simulate(corridor, demands, plan, record);
+        };
+        let (size, width) = (input.size, input.size.record_place(1, 0));
+        start(&input, record);
+        let mut cost = 0;
+        for k in 0..size.steps {
+            let (state, next) = record[k * width..(k + 2) * width].split_at_mut(width);
+            let plan = &plan[size.plan_place(k, 0)..size.plan_place(k + 1, 0)];
+            cost += step(&nodes, step_demands(size, demands, k), plan, state, next);
+        }
+        record[size.steps * width..].chunks_exact_mut(4).for_each(|entry| entry[2..].fill(0));
+        write_cost(cost, record);
+        0
+    }
+
+    fn check(&self, corridor: &[u32], demands: &[u32], record: &[u32]) -> u32 {
+        let found = accepted(corridor, demands);
+        match found.filter(|(input, nodes)| sound_record(input, nodes, demands, record)) {
+            Some(_) => 0,
+            None => Quick.check(corridor, demands, record),
+        }
+    }
+
+    fn convert(&self, corridor: &[u32], demands: &[u32], record: &[u32], plan: &mut [u32]) -> u32 {
+        let found =
+            accepted(corridor, demands).filter(|(input, _)| plan.len() == input.size.plan());
+        let found = found.filter(|(input, nodes)| sound_record(input, nodes, demands, record));
+        let Some((input, nodes)) = found else {
+            return Quick.convert(corridor, demands, record, plan);
+        };
+        for (k, plan) in plan.chunks_exact_mut(2 * nodes.len()).enumerate() {
+            let (state, _, demands) = step_lists(input.size, demands, record, k);
+            for (i, setting) in plan.chunks_exact_mut(2).enumerate() {
+                let place = Place::new(&nodes, demands, state, i);
+                let flows = (state[4 * i + 2].into(), state[4 * i + 3].into());
+                (setting[0], setting[1]) = place.setting(flows.0, flows.1);
+            }
+        }
+        0
+    }
+
+    fn normal(
+        &self,
+        corridor: &[u32],
+        demands: &[u32],
+        plan: &[u32],
+        work: &mut [u32],
+        normal: &mut [u32],
+    ) -> u32 {
+        Quick.normal(corridor, demands, plan, work, normal)
+    }
+}
+
+fn word(block: &[u8], j: usize) -> u32 {
+    u32::from_le_bytes([block[4 * j], block[4 * j + 1], block[4 * j + 2], block[4 * j + 3]])
+}
+
+fn check_word(block: &[u8]) -> u32 {
+    let words = block[..4 * CHECK].chunks_exact(4).zip((1u32..).step_by(2));
+    words.fold(0, |sum, (bytes, weight)| sum.wrapping_add(word(bytes, 0).wrapping_mul(weight)))
+}
+
+/// Whether refusals 14 to 18, and 1 for the file's own count, let a file pass.
+fn sound_file(kind: Kind, size: Size, file: &[u8]) -> bool {
+    let words = kind.words(size);
+    let sound_block = |(number, block): (usize, &[u8])| {
+        let head = (word(block, 0), word(block, 1));
+        word(block, CHECK) == check_word(block) && head == (kind as u32, number as u32)
+    };
+    let padding = FIRST_PAYLOAD + words % PAYLOAD_WORDS..CHECK;
+    let mut last_not_full = file[BLOCK_BYTES * (words / PAYLOAD_WORDS)..].chunks_exact(BLOCK_BYTES);
+    file.chunks_exact(BLOCK_BYTES).enumerate().all(sound_block)
+        && last_not_full.all(|block| padding.clone().all(|j| word(block, j) == 0))
+        && kind.own_count(size).is_none_or(|count| word(file, FIRST_PAYLOAD) as usize == count)
+}
+
+impl FileCalls for Yardstick {
+    fn read(&self, kind: Kind, n: u32, k: u32, file: &[u8], words: &mut [u32]) -> u32 {
+        let fits =
+            |size: &Size| words.len() == kind.words(*size) && file.len() == kind.bytes(*size);
+        let size = Size::new(n, k).ok().filter(fits);
+        if !size.is_some_and(|size| sound_file(kind, size, file)) {
+            return Quick.read(kind, n, k, file, words);
+        }
+        for (payload, block) in words.chunks_mut(PAYLOAD_WORDS).zip(file.chunks_exact(BLOCK_BYTES))
+        {
+            let bytes = block[4 * FIRST_PAYLOAD..].chunks_exact(4);
+            payload.iter_mut().zip(bytes).for_each(|(place, bytes)| *place = word(bytes, 0));
+        }
+        0
+    }
+
+    /// The model's writer is as quick as any.
+    fn write(&self, kind: Kind, n: u32, k: u32, words: &[u32], file: &mut [u8]) -> u32 {
+        Quick.write(kind, n, k, words, file)
+    }
+
+    fn check_files(&self, n: u32, k: u32, files: [&[u8]; 3]) -> u32 {
+        Quick.check_files(n, k, files)
+    }
+
+    fn convert_files(&self, n: u32, k: u32, files: [&[u8]; 3], plan_file: &mut [u8]) -> u32 {
+        Quick.convert_files(n, k, files, plan_file)
+    }
+}

@@ -1,0 +1,162 @@
+//! The host's readers, writers and calls on block files against the model, byte for byte.
+
+use tests::calls::{FileCalls, OnSmallStack};
+use tests::compare::{compare_file, compare_three, Series, READERS, WRITERS};
+use tests::examples::assert_file_examples;
+use tests::host::Host;
+use tests::limits::greatest;
+use tests::model::files::KINDS;
+use tests::model::{Quick, Size};
+use tests::random::damage::full_size;
+use tests::random::files::{
+    file_case, file_of, large_file_case, large_three_files, three_files, FileCase, ThreeFiles,
+};
+use tests::random::Random;
+use tests::sweeps::{each_count_told, each_file_length, each_file_word_changed};
+use tests::tally::Tally;
+
+#[test]
+fn worked_cases_and_table() {
+    assert_file_examples(&Host);
+}
+
+/// Readers and writers; asserts that these answers of each reader came up that often.
+fn run_files(series: Series, make: fn(&mut Random) -> FileCase, numbers: &[u32], at_least: u64) {
+    let mut tally = Tally::default();
+    let outcome = series.run(make, |case| compare_file([&Quick, &Host], case, &mut tally));
+    tally.print();
+    assert_eq!(outcome, Ok(()));
+    for (reader, writer) in READERS.into_iter().zip(WRITERS) {
+        tally.expect(reader, numbers, at_least);
+        tally.expect(writer, &[0, 1], at_least);
+    }
+}
+
+#[test]
+fn small_files() {
+    let series = Series::new("small files", 40_000_000, 60_000);
+    run_files(series, file_case, &[0, 1, 14, 15, 16, 17, 18], 150);
+}
+
+#[test]
+fn large_files() {
+    let series = Series::new("large files", 50_000_000, 1_000);
+    run_files(series, large_file_case, &[0, 1, 15, 16, 17], 2);
+}
+
+/// Checker and converter on files.
+fn run_three(series: Series, make: fn(&mut Random) -> ThreeFiles, numbers: &[u32], at_least: u64) {
+    let mut tally = Tally::default();
+    let outcome = series.run(make, |case| compare_three([&Quick, &Host], case, &mut tally));
+    tally.print();
+    assert_eq!(outcome, Ok(()));
+    tally.expect("check files", numbers, at_least);
+    tally.expect("convert files", numbers, at_least);
+}
+
+#[test]
+fn small_calls_on_files() {
+    let series = Series::new("small calls on files", 60_000_000, 60_000);
+    let numbers = [0, 1, 2, 3, 4, 5, 7, 8, 9, 10, 11, 12, 13, 14, 15, 16, 17, 18];
+    run_three(series, three_files, &numbers, 150);
+}
+
+#[test]
+fn large_calls_on_files() {
+    let series = Series::new("large calls on files", 70_000_000, 120);
+    run_three(series, large_three_files, &[0, 1, 12, 14, 17], 1);
+}
+
+/// Files of one and of several blocks with one word, one length or one count changed, in turn.
+#[test]
+fn every_place_changed() {
+    let mut tally = Tally::default();
+    for size in [Size { links: 2, steps: 1 }, Size { links: 15, steps: 10 }] {
+        let mut compare = |case: &FileCase| {
+            assert_eq!(compare_file([&Quick, &Host], case, &mut tally), Ok(()), "{case:?}");
+        };
+        each_file_word_changed(size, &mut compare);
+        each_count_told(size, &mut compare);
+        each_file_length(size, &mut compare);
+    }
+    tally.print();
+    for (reader, writer) in READERS.into_iter().zip(WRITERS) {
+        tally.expect(reader, &[0, 1, 14, 15, 16, 17, 18], 5);
+        tally.expect(writer, &[0, 1], 5);
+    }
+}
+
+/// Every size with a list that just fills its last block, or is one word longer or shorter.
+#[test]
+fn sizes_around_a_full_block() {
+    let mut sizes = 0;
+    for (n, k) in (1..=64).flat_map(|n| (1..=40).map(move |k| (n, k))) {
+        let size = Size::new(n, k).expect("within limits");
+        for kind in KINDS.into_iter().filter(|kind| [0, 1, 124].contains(&(kind.words(size) % 125)))
+        {
+            let mut words = vec![u32::MAX; kind.words(size)];
+            words[0] = [n, k, 5, 5][kind as usize - 1];
+            let (lent_words, lent_file) = (kind.words(size), kind.bytes(size));
+            let file = file_of(kind, &words);
+            let case = FileCase { kind, n, k, file, words, lent_words, lent_file };
+            let mut tally = Tally::default();
+            assert_eq!(compare_file([&Quick, &Host], &case, &mut tally), Ok(()));
+            tally.expect(READERS[kind as usize - 1], &[0], 1);
+            sizes += 1;
+        }
+    }
+    assert!(sizes > 100, "sizes tried: {sizes}");
+}
+
+/// An accepted file read and rewritten has the same bytes; words written and read come back.
+#[test]
+fn files_come_back() {
+    let mut accepted = 0;
+    let series = Series::new("files come back", 80_000_000, 2_000);
+    let outcome = series.run(file_case, |case| {
+        let FileCase { kind, n, k, file, .. } = case;
+        let mut words = vec![7; case.lent_words];
+        if Host.read(*kind, *n, *k, file, &mut words) != 0 {
+            return Ok(());
+        }
+        accepted += 1;
+        let mut bytes = vec![7; file.len()];
+        let mut again = vec![7; words.len()];
+        let answers = [
+            Host.write(*kind, *n, *k, &words, &mut bytes),
+            Host.read(*kind, *n, *k, &bytes, &mut again),
+        ];
+        match answers == [0, 0] && bytes == *file && again == words {
+            true => Ok(()),
+            false => Err(format!("{kind:?} {n} {k}: not the same")),
+        }
+    });
+    assert_eq!(outcome, Ok(()));
+    assert!(accepted > 500, "files accepted: {accepted}");
+}
+
+/// Every call at full size in a thread with a stack of 128 KiB.
+#[test]
+fn full_size_on_a_small_stack() {
+    let size = full_size();
+    let words = greatest(size, false);
+    let mut tally = Tally::default();
+    let three = ThreeFiles::of_case(size, &words);
+    assert_eq!(compare_three([&Quick, &OnSmallStack(Host)], &three, &mut tally), Ok(()));
+    let lists = [words.corridor, words.demands, words.record, words.plan];
+    for (kind, words) in KINDS.into_iter().zip(lists) {
+        let case = FileCase {
+            kind,
+            n: 64,
+            k: 1_440,
+            file: file_of(kind, &words),
+            words,
+            lent_words: kind.words(size),
+            lent_file: kind.bytes(size),
+        };
+        assert_eq!(compare_file([&Quick, &OnSmallStack(Host)], &case, &mut tally), Ok(()));
+    }
+    for call in READERS.into_iter().chain(WRITERS).chain(["check files", "convert files"]) {
+        tally.expect(call, &[0], 1);
+    }
+}

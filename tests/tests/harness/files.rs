@@ -1,0 +1,205 @@
+//! Wrong block files: the check word, the order of a reader's tests, tests left out, counts in too
+//! few bits, and wrong uses of the readers by the two calls on files.
+
+use super::wrong;
+use tests::calls::FileCalls;
+use tests::model::files::{block_fault, read_list, words_of, BLOCK_BYTES};
+use tests::model::{refusal, refuse_if, Kind, Quick, Refusal, Size};
+
+/// The words of a file of the right length, without any test of it.
+fn untested(kind: Kind, size: Size, file: &[u8]) -> Vec<u32> {
+    payload(file)[..kind.words(size)].to_vec()
+}
+
+/// The payload of all whole blocks of a file.
+fn payload(file: &[u8]) -> Vec<u32> {
+    let blocks = file.chunks_exact(BLOCK_BYTES);
+    blocks.flat_map(|block| words_of(block)[2..127].to_vec()).collect()
+}
+
+wrong! { variants: FileCalls;
+    SixteenBeforeFifteen {
+        const BLOCK_ORDER: [u32; 3] = [16, 15, 17];
+    }
+
+    SeventeenBeforeSixteen {
+        const BLOCK_ORDER: [u32; 3] = [15, 17, 16];
+    }
+
+    /// Weights 1, 2, 3 and so on.
+    OtherWeights {
+        fn check_word(block: &[u32]) -> u32 {
+            let weighted = (0..127).map(|j| (j as u32 + 1).wrapping_mul(block[j]));
+            weighted.fold(0, u32::wrapping_add)
+        }
+    }
+
+    /// The last payload word is not summed up.
+    LastWordNotSummed {
+        fn check_word(block: &[u32]) -> u32 {
+            Quick::check_word(block).wrapping_sub(block[126].wrapping_mul(253))
+        }
+    }
+
+    /// Each test over all blocks before the next test.
+    TestByTest {
+        fn read_list(kind: Kind, size: Size, file: &[u8]) -> Result<Vec<u32>, Refusal> {
+            refuse_if(file.len() != kind.bytes(size), 14, 0, 0)?;
+            for number in [15, 16, 17] {
+                for (place, block) in file.chunks_exact(BLOCK_BYTES).enumerate() {
+                    let fault = block_fault::<Quick>(number, kind, place, &words_of(block));
+                    refuse_if(fault, number, place, 0)?;
+                }
+            }
+            Quick::read_list(kind, size, file)
+        }
+    }
+
+    /// Blocks after the first may be of any kind.
+    KindOfFirstBlockOnly {
+        fn read_list(kind: Kind, size: Size, file: &[u8]) -> Result<Vec<u32>, Refusal> {
+            match Quick::read_list(kind, size, file) {
+                Err(Refusal { number: 16, row, .. }) if row > 0 => Ok(untested(kind, size, file)),
+                result => result,
+            }
+        }
+    }
+
+    PaddingUntested {
+        fn read_list(kind: Kind, size: Size, file: &[u8]) -> Result<Vec<u32>, Refusal> {
+            match Quick::read_list(kind, size, file) {
+                Err(Refusal { number: 18, .. }) => Ok(untested(kind, size, file)),
+                result => result,
+            }
+        }
+    }
+
+    OwnCountUntested {
+        fn read_list(kind: Kind, size: Size, file: &[u8]) -> Result<Vec<u32>, Refusal> {
+            match Quick::read_list(kind, size, file) {
+                Err(Refusal { number: 1, .. }) => Ok(untested(kind, size, file)),
+                result => result,
+            }
+        }
+    }
+
+    /// The file's own N or K before its padding.
+    OwnCountBeforePadding {
+        fn read_list(kind: Kind, size: Size, file: &[u8]) -> Result<Vec<u32>, Refusal> {
+            let own = payload(file).first().copied().unwrap_or(0) as usize;
+            let told = [size.links, size.steps, own, own][kind as usize - 1];
+            match Quick::read_list(kind, size, file) {
+                Err(Refusal { number: 18, .. }) if own != told => Err(refusal(1, 0, 0)),
+                result => result,
+            }
+        }
+    }
+
+    /// The place of refusal 18 is left out.
+    PaddingRowLeftOut {
+        fn read_list(kind: Kind, size: Size, file: &[u8]) -> Result<Vec<u32>, Refusal> {
+            match Quick::read_list(kind, size, file) {
+                Err(Refusal { number: 18, .. }) => Err(refusal(18, 0, 0)),
+                result => result,
+            }
+        }
+    }
+
+    /// Bytes after the file's end are let pass.
+    BytesLeftOver {
+        fn read_list(kind: Kind, size: Size, file: &[u8]) -> Result<Vec<u32>, Refusal> {
+            let end = kind.bytes(size).min(file.len());
+            read_list::<Quick>(kind, size, &file[..end])
+        }
+    }
+}
+
+/// What a variant of the calls does wrong; everything else is the model's.
+#[derive(Clone, Copy)]
+enum Wrong {
+    CountsIn16Bits,
+    StepsUntestedForCorridors,
+    OwnCountWrittenOver,
+    ReaderWritesOnRefusal,
+    LengthsOfAllFilesFirst,
+    RecordReadFirst,
+    PlanFileWrittenOnRefusal,
+    PlanFileLengthLast,
+}
+
+use Wrong::*;
+
+impl Wrong {
+    fn counts(self, kind: Kind, n: u32, k: u32) -> (u32, u32) {
+        match (self, kind) {
+            (CountsIn16Bits, _) => (n & 0xFFFF, k & 0xFFFF),
+            (StepsUntestedForCorridors, Kind::Corridor) => (n, 1),
+            _ => (n, k),
+        }
+    }
+}
+
+impl FileCalls for Wrong {
+    fn read(&self, kind: Kind, n: u32, k: u32, file: &[u8], words: &mut [u32]) -> u32 {
+        let (n, k) = self.counts(kind, n, k);
+        let answer = Quick.read(kind, n, k, file, words);
+        if matches!(self, ReaderWritesOnRefusal) && answer % 256 >= 15 {
+            words.fill(0);
+        }
+        answer
+    }
+
+    fn write(&self, kind: Kind, n: u32, k: u32, words: &[u32], file: &mut [u8]) -> u32 {
+        let (n, k) = self.counts(kind, n, k);
+        let mut words = words.to_vec();
+        if let (OwnCountWrittenOver, Kind::Corridor, true) = (self, kind, !words.is_empty()) {
+            words[0] = n;
+        }
+        Quick.write(kind, n, k, &words, file)
+    }
+
+    fn check_files(&self, n: u32, k: u32, files: [&[u8]; 3]) -> u32 {
+        let kinds = [Kind::Corridor, Kind::Demands, Kind::Record];
+        let Ok(size) = Size::new(n, k) else {
+            return 1;
+        };
+        let other_length =
+            kinds.iter().zip(files).any(|(kind, file)| file.len() != kind.bytes(size));
+        match self {
+            LengthsOfAllFilesFirst if other_length => 14,
+            RecordReadFirst => {
+                let mut record = vec![0; size.record()];
+                let answer = Quick.read(Kind::Record, n, k, files[2], &mut record);
+                if answer == 0 {
+                    Quick.check_files(n, k, files)
+                } else {
+                    answer
+                }
+            }
+            _ => Quick.check_files(n, k, files),
+        }
+    }
+
+    fn convert_files(&self, n: u32, k: u32, files: [&[u8]; 3], plan_file: &mut [u8]) -> u32 {
+        let answer = Quick.convert_files(n, k, files, plan_file);
+        match self {
+            PlanFileWrittenOnRefusal if answer != 0 => plan_file.fill(0),
+            PlanFileLengthLast if answer == 1 => return Quick.check_files(n, k, files).max(1),
+            _ => {}
+        }
+        answer
+    }
+}
+
+pub fn call_variants() -> Vec<(&'static str, &'static dyn FileCalls)> {
+    vec![
+        ("CountsIn16Bits", &CountsIn16Bits),
+        ("StepsUntestedForCorridors", &StepsUntestedForCorridors),
+        ("OwnCountWrittenOver", &OwnCountWrittenOver),
+        ("ReaderWritesOnRefusal", &ReaderWritesOnRefusal),
+        ("LengthsOfAllFilesFirst", &LengthsOfAllFilesFirst),
+        ("RecordReadFirst", &RecordReadFirst),
+        ("PlanFileWrittenOnRefusal", &PlanFileWrittenOnRefusal),
+        ("PlanFileLengthLast", &PlanFileLengthLast),
+    ]
+}

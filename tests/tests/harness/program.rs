@@ -1,0 +1,79 @@
+//! Wrong programs: other orders of the first tests, and other texts.
+
+use super::wrong;
+use tests::calls::Program;
+use tests::model::program::{file_ends, program_size};
+use tests::model::{refusal, refuse_if, Quick, Refusal, Size};
+
+wrong! { variants: Program;
+    /// Whole blocks are asked for before N is looked at.
+    BlocksBeforeCounts {
+        fn program_size(bytes: &[u8]) -> Result<Size, Refusal> {
+            refuse_if(!bytes.len().is_multiple_of(512), 14, 0, 0)?;
+            program_size(bytes)
+        }
+    }
+
+    /// A missing K is a bad one.
+    MissingStepsAreBad {
+        fn program_size(bytes: &[u8]) -> Result<Size, Refusal> {
+            let missing = bytes.len() >= 12;
+            program_size(bytes).map_err(|refused| if missing { refusal(1, 0, 0) } else { refused })
+        }
+    }
+
+    /// The corridor's file is read before K is looked at.
+    CorridorReadBeforeSteps {
+        fn program_size(bytes: &[u8]) -> Result<Size, Refusal> {
+            let links = bytes.get(8..12).map(|word| u32::from(word[0]));
+            if let Some(size) = links.and_then(|n| Size::new(n, 1).ok()) {
+                let file = &bytes[..file_ends(size)[0].min(bytes.len())];
+                Quick::read_list(tests::model::Kind::Corridor, size, file)?;
+            }
+            program_size(bytes)
+        }
+    }
+}
+
+/// What is wrong with the text; everything else is the model's.
+#[derive(Clone, Copy)]
+enum Wrong {
+    NoLastLineFeed,
+    OneByteLessTaken,
+    HeldCalledFull,
+    RefusalWithoutPlace,
+    LongerInputCut,
+}
+
+use Wrong::*;
+
+impl Program for Wrong {
+    fn print(&self, input: &[u8]) -> Vec<u8> {
+        let taken = match self {
+            LongerInputCut => &input[..input.len().min(65_536)],
+            _ => input,
+        };
+        let mut text = String::from_utf8(Quick.print(taken)).expect("the model prints text");
+        match self {
+            NoLastLineFeed => text.truncate(text.len() - 1),
+            OneByteLessTaken if input.len() == 65_536 => text = "REFUSED 14 0 0\n".to_string(),
+            HeldCalledFull => text = text.replace(" H\n", " F\n"),
+            RefusalWithoutPlace if text.starts_with('R') => {
+                let number = text.split(' ').nth(1).expect("a refusal has a number");
+                text = format!("REFUSED {number} 0 0\n");
+            }
+            _ => {}
+        }
+        text.into_bytes()
+    }
+}
+
+pub fn text_variants() -> Vec<(&'static str, &'static dyn Program)> {
+    vec![
+        ("NoLastLineFeed", &NoLastLineFeed),
+        ("OneByteLessTaken", &OneByteLessTaken),
+        ("HeldCalledFull", &HeldCalledFull),
+        ("RefusalWithoutPlace", &RefusalWithoutPlace),
+        ("LongerInputCut", &LongerInputCut),
+    ]
+}
