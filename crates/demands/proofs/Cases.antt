@@ -10,6 +10,7 @@ use Rattle.road.specs.Run.{supply, junction, inflow, next, cost}
 use Rattle.settings.specs.Rate.{fullFlows, gives, rateFor}
 use Rattle.settings.specs.Setting.{heldLimit, settingFor}
 use Rattle.settings.proofs.Cases.{cases as node-cases}
+use Rattle.payload.proofs.Cases.{cases as file-cases}
 use Rattle.lists.specs.Words.{linksOf, nodeAt, stepsOf, roadOf, planOf, planWord, planWords, traceOf}
 use Rattle.lists.specs.Refusals.{sizes, linkFault, fresh, rampFault, startFault, demandFault, linkRefusal, rampRefusal, startRefusal, demandRefusal, ranges}
 use Rattle.simulate.proofs.Case.{case-1}
@@ -33,4 +34,5 @@ cases =
       case-9 = node-cases .case-9;
       case-9-full = node-cases .case-9-full;
       case-10 = node-cases .case-10;
+      case-10-check = file-cases .case-10;
     }

@@ -26,7 +26,7 @@ use Rattle.convert.specs.Convert.{planFor, converted, normalForm, checkAnswer, 
 use Rattle.convert.proofs.Facts.{Moves, Keeps, judged-iff}
 use Rattle.convert.proofs.Plans.{trace-limits}
 use Rattle.convert.proofs.Records.{record-costs, record-moves, queues-within, returned, returned-named, returned-bounded, returned-record}
-use Rattle.demands.specs.Demands.{Valid, SomeValidPlan, recorded, recordedFlows, rateAt, limitAt, Returned, Demand3}
+use Rattle.demands.specs.Demand3.{Valid, SomeValidPlan, recorded, recordedFlows, rateAt, limitAt, Returned, Demand3}
 
 and-true : (t : Bool) → (t && true) ≡ t
 and-true true = refl

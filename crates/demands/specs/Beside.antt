@@ -18,7 +18,7 @@ use Rattle.lists.specs.Refusals.{bounds}
 use Rattle.simulate.specs.Simulate.{simulateAnswer, simulated}
 use Rattle.convert.specs.Refusals.{judged}
 use Rattle.convert.specs.Convert.{converted, normalForm, checkAnswer, convertAnswer, normalAnswer}
-use Rattle.demands.specs.Demands.{Valid, SomeValidPlan, recorded, recordedFlows, rateAt, limitAt}
+use Rattle.demands.specs.Demand3.{Valid, SomeValidPlan, recorded, recordedFlows, rateAt, limitAt}
 
 -- "0 ≤ rate ≤ C and 0 ≤ limit ≤ V"
 pub record InBounds (corridor demands plan : List ℕ) (k i : ℕ) : Type 0 where

@@ -7,6 +7,8 @@ use Rattle.tables.specs.declared.Answer.the-variants.{Accepted, Refused}
 use Rattle.road.specs.Step.{through, flowsWith}
 use Rattle.settings.specs.Setting.{settingFor}
 use Rattle.settings.specs.Cases.{nodeOne, nodeNine, flows, full, held}
+use Rattle.payload.specs.Block.{checkWord, bodyWord}
+use Rattle.payload.specs.File.{payloadIn}
 use Rattle.simulate.specs.B.{corridor, demands, plan, recordWith, record-1}
 use Rattle.simulate.specs.Simulate.{simulated}
 use Rattle.convert.specs.Convert.{converted, convertAnswer}
@@ -58,5 +60,6 @@ pub record Cases : Type 0 where
   -- n = 65,536, V = F = 65,536, f = 1, b = 0, S = 2, r = 0, l = 0: held, limit 1; with S = 1 it is full, rate 0
   pub case-9 : settingFor (nodeNine 2) (flows 1 0) ≡ held 0 1
   pub case-9-full : settingFor (nodeNine 1) (flows 1 0) ≡ full 0
-  -- b = 32,768: T(1) = 1
+  -- b = 32,768: T(1) = 1; an otherwise zero block of kind 1, number 1 has check 4
   pub case-10 : through 1 32768 ≡ 1
+  pub case-10-check : checkWord (bodyWord 1 1 (payloadIn [] 1)) ≡ 4

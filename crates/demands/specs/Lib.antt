@@ -1,3 +1,4 @@
-pub mod Demands
+pub mod Demand2
+pub mod Demand3
 pub mod Beside
 pub mod Cases

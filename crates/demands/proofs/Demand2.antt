@@ -1,0 +1,40 @@
+-- Demand 2 is proved: the record by how it is laid out, the files by the laws of block files.
+use Prim.Native.Nat.{ℕ}
+use mathlib.Core.List.{List}
+use mathlib.Core.Path.{_≡_, _∙_}
+use native.Mathlib.Nat.{le-of-lt}
+use native.Mathlib.Omega.{arith}
+use Rattle.road.specs.Run.{run}
+use Rattle.road.proofs.Runs.{run-flows, run-last}
+use Rattle.lists.specs.Words.{roadOf, planOf}
+use Rattle.lists.proofs.Words.{record-length, record-read, record-cost}
+use Rattle.simulate.specs.Simulate.{simulated}
+use Rattle.block.specs.declared.Kind.{Kind}
+use Rattle.block.proofs.EachKind.{written-then-read, read-then-written, change-seen}
+use Rattle.demands.specs.Demand2.{SimulatedRecord, BlockFiles, Demand2}
+
+simulated-is : (corridor demands words : List ℕ) → SimulatedRecord corridor demands words (roadOf corridor demands) (planOf (roadOf corridor demands) words)
+unfolding simulated run
+simulated-is corridor demands words =
+    let road = roadOf corridor demands in
+    let plan = planOf (roadOf corridor demands) words in
+    let read = record-read road (run road plan) in
+    record {
+      record-length = record-length road (run road plan);
+      states = λ k i hk hi. read k i hk hi .state;
+      flows = λ k i hk hi. read k i (le-of-lt hk) hi .flows ∙ run-flows road plan k i hk;
+      last-flows = λ i hi. read (road .steps) i (omega arith) hi .flows ∙ run-last road plan i;
+      cost-low = record-cost road (run road plan) .low;
+      cost-high = record-cost road (run road plan) .high;
+    }
+
+files-are : (kind : Kind) (n k : ℕ) → BlockFiles kind n k
+files-are kind n k =
+    record {
+      words-come-back = λ words file lent right accepted fits. written-then-read kind n k words file lent right accepted fits;
+      bytes-come-back = λ file words lent right accepted fits. read-then-written kind n k file words lent right accepted fits;
+      a-change-is-seen = λ file other lent t i right changed few one accepted within. change-seen kind n k file other lent t i right changed few one accepted within .0;
+    }
+
+pub demand2 : Demand2
+demand2 = record { simulated-record = simulated-is; block-files = files-are }
