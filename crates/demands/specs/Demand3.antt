@@ -21,7 +21,7 @@ pub record Valid (corridor demands plan : List ℕ) : Type 0 where
   pub queues : (k i : ℕ) → k ≤ stepsOf demands → i ≤ linksOf corridor
       → traceOf (roadOf corridor demands) (simulated corridor demands plan) .state k i .queue ≤ roadOf corridor demands .node i .ramp .queueLimit
 
--- a plan of these two lists' lengths that has the proposed record: "that and its own record agree in every word"
+-- some valid plan has the proposed record: "that and its own record agree in every word"
 abbrev pub SomeValidPlan : List ℕ → List ℕ → List ℕ → Type 0
 SomeValidPlan corridor demands words = (plan : List ℕ) × Valid corridor demands plan × (simulated corridor demands plan ≡ words)
 
