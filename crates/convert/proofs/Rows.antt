@@ -191,7 +191,7 @@ module _ (corridor demands words : List ℕ) (links steps : ℕ) (ready : Ready 
       trace-row (roadOf corridor demands) words j at ((links + 1) * 4) e w
 
   -- row k + 1
-  after-lent : (at : ℕ) → at ≡ (k + 1) * ((links + 1) * 4)
+  pub after-lent : (at : ℕ) → at ≡ (k + 1) * ((links + 1) * 4)
       → TraceRow (linksOf corridor) (traceOf (roadOf corridor demands) words) (suc k) (take (at + (links + 1) * 4 - at) (drop at words))
   after-lent at e =
       subst (λ (j : ℕ). TraceRow (linksOf corridor) trace j (take (at + (links + 1) * 4 - at) (drop at words))) (add-one k) (trace-lent (k + 1) at e)

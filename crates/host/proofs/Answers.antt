@@ -1,13 +1,14 @@
--- Every answer of the calls on word lists fits one number: N and K are small wherever a place is named.
-use Prim.Native.Nat.{ℕ, zero, suc, _+_, _/_, _%_, _≤_, min}
+-- Every answer of the calls fits one number: N, K and the blocks of a file are few wherever a place is named.
+use Prim.Native.Nat.{ℕ, zero, suc, _+_, _*_, _/_, _%_, _≤_, min}
 use mathlib.Core.Bool.{Bool, true, false, _&&_}
 use mathlib.Core.List.{List}
-use mathlib.Core.Path.{_≡_, refl, sym, subst}
+use mathlib.Core.Path.{_≡_, refl, sym, ap, subst, _∙_}
 use native.Mathlib.Omega.{arith}
+use borrow.Author.Needs.{needs}
 use lib.Dec.{leb, eqb}
 use lib.ListN.{length, getD}
 use Rattle.tables.specs.declared.Answer.{Answer}
-use Rattle.tables.specs.Answer.{orElse, unless}
+use Rattle.tables.specs.Answer.{orElse, unless, hostNumber}
 use Rattle.tables.specs.First.{firstPlace}
 use Rattle.tables.proofs.Answers.{Small, small-refusal, small-orElse, small-unless, orElse-assoc}
 use Rattle.tables.proofs.First.{small-node, small-place}
@@ -19,6 +20,15 @@ use Rattle.lists.specs.Refusals.{within, implies, sized, linkFault, fresh, ramp
 use Rattle.lists.proofs.Limits.{sizes-iff}
 use Rattle.simulate.specs.Simulate.{simulateSizes, simulateAnswer, simulated}
 use Rattle.convert.specs.Convert.{checkAnswer, convertAnswer, normalRefusal, normalAnswer}
+use Rattle.payload.specs.File.{blocksFor}
+use Rattle.payload.proofs.Bounds.{Bounded}
+use Rattle.block.specs.declared.Kind.{Kind}
+use Rattle.block.specs.declared.Kind.the-variants.{Corridor, Demands, Record}
+use Rattle.block.specs.Kinds.{listLength}
+use Rattle.block.specs.Calls.{toldFits, fileAnswer, readAnswer, writeAnswer}
+use Rattle.block.proofs.Bounds.{file-bounded, read-bounded, write-bounded}
+use Rattle.block.proofs.Calls.{told-is, length-high, and-true}
+use Rattle.files.specs.Files.{corridorIn, demandsIn, recordIn, filesAnswer, readThenCheck, checkFiles, convertFiles}
 use Rattle.convert.specs.Refusals.{sameState, unlessThen, fixedFault, stepFault, costFault, fixedAt, stepAt, judged}
 
 -- ---- each fault's number is small
@@ -124,7 +134,7 @@ pub sized-small : (fits : Bool) (rest : Answer) → (fits ≡ true → Small res
 sized-small true rest h = h refl
 sized-small false rest h = record { number = omega arith; row = omega arith; node = omega arith }
 
--- ---- the answers of the four calls
+-- ---- the answers of the calls on word lists
 
 module _ (corridor demands : List ℕ) where
   -- N and K are small where both lists have their lengths
@@ -140,21 +150,17 @@ module _ (corridor demands : List ℕ) where
   unfolding roadOf
   judged-fit words e = let s = sizes-iff corridor demands .0 e in judged-small (roadOf corridor demands) (omega (arith, s .links)) (omega (arith, s .steps)) words
 
-  first-holds : (a b : Bool) → (a && b) ≡ true → a ≡ true
-  first-holds true b e = refl
-  first-holds false b e = e
-
   pub simulate-small : (plan : List ℕ) (room : ℕ) → Small (simulateAnswer corridor demands plan room)
   unfolding simulateAnswer simulateSizes
   simulate-small plan room =
       sized-small (simulateSizes corridor demands plan room) _
-      (λ e. let s = first-holds (sizes corridor demands) _ e in small-orElse (ranges (roadOf corridor demands)) _ (ranges-fit s) (bounds-fit plan s))
+      (λ e. let s = and-true (sizes corridor demands) _ .0 e .0 in small-orElse (ranges (roadOf corridor demands)) _ (ranges-fit s) (bounds-fit plan s))
 
   pub check-small : (words : List ℕ) → Small (checkAnswer corridor demands words)
   unfolding checkAnswer
   check-small words =
       sized-small (sizes corridor demands && eqb (length words) (recordLength (linksOf corridor) (stepsOf demands))) _
-      (λ e. let s = first-holds (sizes corridor demands) _ e in small-orElse (ranges (roadOf corridor demands)) _ (ranges-fit s) (judged-fit words s))
+      (λ e. let s = and-true (sizes corridor demands) _ .0 e .0 in small-orElse (ranges (roadOf corridor demands)) _ (ranges-fit s) (judged-fit words s))
 
   pub convert-small : (words : List ℕ) (room : ℕ) → Small (convertAnswer corridor demands words room)
   unfolding convertAnswer
@@ -162,7 +168,7 @@ module _ (corridor demands : List ℕ) where
       sized-small
       (sizes corridor demands
       && (eqb (length words) (recordLength (linksOf corridor) (stepsOf demands)) && eqb room (planLength (linksOf corridor) (stepsOf demands)))) _
-      (λ e. let s = first-holds (sizes corridor demands) _ e in small-orElse (ranges (roadOf corridor demands)) _ (ranges-fit s) (judged-fit words s))
+      (λ e. let s = and-true (sizes corridor demands) _ .0 e .0 in small-orElse (ranges (roadOf corridor demands)) _ (ranges-fit s) (judged-fit words s))
 
   pub normal-small : (plan : List ℕ) (work room : ℕ) → Small (normalAnswer corridor demands plan work room)
   unfolding normalAnswer normalRefusal
@@ -176,5 +182,52 @@ module _ (corridor demands : List ℕ) where
       subst Small (sym (orElse-assoc (sized fits) rest last))
       (sized-small fits (orElse rest last)
       (λ e.
-      let s = first-holds (sizes corridor demands) _ e in
+      let s = and-true (sizes corridor demands) _ .0 e .0 in
       small-orElse rest last (small-orElse (ranges (roadOf corridor demands)) _ (ranges-fit s) (bounds-fit plan s)) (judged-fit (simulated corridor demands plan) s)))
+
+-- ---- those of the readers and the writers
+
+bounded-small : (rows : ℕ) (a : Answer) → Bounded rows a → rows ≤ 65535 → Small a
+bounded-small rows a b h = record { number = omega (arith, b .number); row = omega (arith, b .row); node = omega (arith, b .node) }
+
+pub read-small : (kind : Kind) (n k : ℕ) (file : List ℕ) (room : ℕ) → Small (readAnswer kind n k file room)
+read-small kind n k file room = bounded-small 2998 _ (read-bounded kind n k file room) (omega arith)
+
+pub write-small : (kind : Kind) (n k : ℕ) (words : List ℕ) (room : ℕ) → Small (writeAnswer kind n k words room)
+write-small kind n k words room = bounded-small 0 _ (write-bounded kind n k words room) (omega arith)
+
+-- ---- and those on files
+
+file-small : (kind : Kind) (n k : ℕ) (file : List ℕ) → toldFits n k ≡ true → Small (fileAnswer kind n k file)
+file-small kind n k file t =
+    let l : listLength kind n k ≤ 374662 = length-high kind n k (told-is n k _ refl t) in
+    bounded-small (blocksFor (listLength kind n k)) _ (file-bounded kind n k file) (omega arith)
+
+module _ (n k : ℕ) (corridor demands words : List ℕ) where
+  then-check-small : toldFits n k ≡ true → Small (readThenCheck n k corridor demands words)
+  unfolding readThenCheck filesAnswer
+  then-check-small t =
+      small-orElse (filesAnswer n k corridor demands words) _
+      (small-orElse (fileAnswer Corridor n k corridor) _ (file-small Corridor n k corridor t)
+      (small-orElse (fileAnswer Demands n k demands) _ (file-small Demands n k demands t) (file-small Record n k words t)))
+      (check-small (corridorIn n corridor) (demandsIn n k demands) (recordIn n k words))
+
+  pub check-files-small : Small (checkFiles n k corridor demands words)
+  unfolding checkFiles
+  check-files-small = sized-small (toldFits n k) _ then-check-small
+
+  pub convert-files-small : (room : ℕ) → Small (convertFiles n k corridor demands words room)
+  unfolding convertFiles
+  convert-files-small room =
+      sized-small (toldFits n k && eqb room (blocksFor (planLength n k) * 512)) _ (λ e. then-check-small (and-true (toldFits n k) _ .0 e .0))
+
+-- ---- a call's answer x, as the code has it in a
+
+pub told-small : (a x : Answer) → a ≡ x → Small x → Small a
+told-small a x e h = subst Small (sym e) h
+
+pub told-number : (v : ℕ) (a x : Answer) → v ≡ hostNumber a → a ≡ x → v ≡ hostNumber x
+told-number v a x e h = e ∙ ap hostNumber h
+
+pub ruleset numbers =
+    (needs, told-small, told-number, simulate-small, check-small, convert-small, normal-small, read-small, write-small, check-files-small, convert-files-small)

@@ -1,0 +1,5 @@
+pub mod Rows
+pub mod Contents
+pub mod Plans
+pub mod Answers
+pub mod Turns

@@ -1,0 +1,115 @@
+-- The plan file: its rows are those of the converter's plan, put one by one and then sealed.
+use Prim.Native.Nat.{ℕ, suc, _+_, _-_, _*_, _<_, _≤_}
+use mathlib.Core.List.{List}
+use mathlib.Core.Path.{_≡_, refl, sym, ap, ap₂, subst, _∙_}
+use native.Mathlib.Omega.{arith}
+use borrow.Rule.Slice.PartMut.{putMid}
+use lib.ListN.{length, take, drop}
+use Rattle.tables.proofs.Grid.{rowWords-length}
+use Rattle.tables.proofs.Numbers.{row-fits}
+use Rattle.tables.proofs.Tabulate.{tabulate-length}
+use Rattle.lists.specs.Words.{planLength, demandsLength, recordLength, corridorLength}
+use Rattle.convert.specs.Convert.{converted}
+use Rattle.convert.specs.Rows.{planRow, settingWord, Ready}
+use Rattle.convert.proofs.Settings.{PlanRows, plan-begun, plan-more, plan-ended}
+use Rattle.payload.specs.File.{blocksFor, payloadWord, payloadOf, payloadPart, putPayload, fileOf}
+use Rattle.payload.specs.Word.{Words}
+use Rattle.payload.proofs.Payloads.{payload-part, payload-put, put-length-same}
+use Rattle.block.specs.declared.Kind.the-variants.{Plan}
+use Rattle.block.specs.Kinds.{Told, kindNumber, listLength}
+use Rattle.block.proofs.Calls.{length-high}
+use Rattle.files.specs.Files.{corridorIn, demandsIn, recordIn, planFile}
+use Rattle.files.specs.Fits.{Holds, FilesFit, planRowIn}
+use Rattle.files.proofs.Contents.{corridor-read}
+
+-- ---- as a loop's invariant: the first k rows stand in the file
+
+pub record PlanPut (corridor demands words : List ℕ) (links steps k : ℕ) (lent file : List ℕ) : Type 0 where
+  pub rows : PlanRows corridor (demandsIn links steps demands) (recordIn links steps words) links steps k (payloadOf (planLength links steps) lent) (payloadOf (planLength links steps) file)
+  pub holds : Holds (planLength links steps) file
+
+pub put-begun : (corridor demands words : List ℕ) (links steps : ℕ) (lent : List ℕ) → Holds (planLength links steps) lent → PlanPut corridor demands words links steps 0 lent lent
+put-begun corridor demands words links steps lent h =
+    record { rows = plan-begun corridor _ _ links steps _ (tabulate-length (planLength links steps) (payloadWord lent)); holds = h }
+
+-- the plan's row of step k, in the words of the lists
+row-read : (corridor demands words : List ℕ) (links steps k : ℕ) → k < steps
+    → planRowIn corridor links demands words k
+    ≡ planRow corridor links
+    (take (1 + k * ((links + 1) * 2) + (links + 1) * 2 - (1 + k * ((links + 1) * 2))) (drop (1 + k * ((links + 1) * 2)) (demandsIn links steps demands)))
+    (take (k * ((links + 1) * 4) + (links + 1) * 4 - k * ((links + 1) * 4)) (drop (k * ((links + 1) * 4)) (recordIn links steps words)))
+row-read corridor demands words links steps k h =
+    ap₂ (planRow corridor links)
+    (payload-part (1 + k * ((links + 1) * 2)) ((links + 1) * 2) (demandsLength links steps) demands (omega (arith, row-fits k steps ((links + 1) * 2) h)))
+    (payload-part (k * ((links + 1) * 4)) ((links + 1) * 4) (recordLength links steps) words (omega (arith, row-fits k steps ((links + 1) * 4) h)))
+
+row-count : (corridor demand row : List ℕ) (links : ℕ) → length (planRow corridor links demand row) ≡ (links + 1) * 2
+unfolding planRow
+row-count corridor demand row links =
+    let e : length (planRow corridor links demand row) ≡ suc links * 2 = rowWords-length 2 (suc links) (settingWord corridor demand row) in
+    omega arith
+
+-- ---- one row: it fits the file, and it is the plan's
+
+pub put-fits : (links steps at room : ℕ) (corridor demand row out : List ℕ) → out ≡ planRow corridor links demand row → room ≡ blocksFor (planLength links steps) * 512
+    → at + (links + 1) * 2 ≤ steps * ((links + 1) * 2) → blocksFor (at + length out) * 512 ≤ room
+put-fits links steps at room corridor demand row out e f h =
+    let n : length out ≡ (links + 1) * 2 = ap length e ∙ row-count corridor demand row links in
+    omega arith
+
+-- r and at are where the two rows start, and count and wide their words
+pub put-told : (links k r at count wide : ℕ) (corridor demands words demand row out : List ℕ) (lent : List ℕ) {file : List ℕ} → out ≡ planRow corridor links demand row
+    → demand ≡ payloadPart (1 + r) count demands → count ≡ (links + 1) * 2 → row ≡ payloadPart at wide words → wide ≡ (links + 1) * 4
+    → r ≡ k * ((links + 1) * 2) → at ≡ k * ((links + 1) * 4) → (file ≡ putPayload lent r out) × Words out
+    → (file ≡ putPayload lent (k * ((links + 1) * 2)) (planRowIn corridor links demands words k)) × Words (planRowIn corridor links demands words k)
+put-told links k r at count wide corridor demands words demand row out lent o d p w q e f told =
+    let is : out ≡ planRowIn corridor links demands words k =
+    o
+    ∙ ap₂ (planRow corridor links)
+    (d ∙ ap₂ (λ (x y : ℕ). payloadPart (1 + x) y demands) e p)
+    (w ∙ ap₂ (λ (x y : ℕ). payloadPart x y words) f q) in
+    (told .0 ∙ ap₂ (putPayload lent) e is, subst Words is (told .1))
+
+module _ (corridor demands words : List ℕ) (links steps : ℕ) (ready : Ready corridor (demandsIn links steps demands) (recordIn links steps words) links steps) where
+  pub put-more : (k : ℕ) (lent file file′ : List ℕ) → PlanPut corridor demands words links steps k lent file → k < steps
+      → file′ ≡ putPayload file (k * ((links + 1) * 2)) (planRowIn corridor links demands words k) → Words (planRowIn corridor links demands words k)
+      → PlanPut corridor demands words links steps (k + 1) lent file′
+  put-more k lent file file′ p h e w =
+      let m : ℕ = planLength links steps in
+      let r : ℕ = k * ((links + 1) * 2) in
+      let ys : List ℕ = planRowIn corridor links demands words k in
+      let n : length (planRowIn corridor links demands words k) ≡ (links + 1) * 2 = row-count corridor _ _ links in
+      let put : payloadOf m file′ ≡ putMid r (r + (links + 1) * 2 - r) (payloadOf m file) ys =
+      ap (payloadOf m) e
+      ∙ payload-put m r file ys w (omega (arith, row-fits k steps ((links + 1) * 2) h)) (omega (arith, p .holds))
+      ∙ ap (λ (x : ℕ). putMid r (r + x - r) (payloadOf m file) ys) n in
+      record {
+        rows = subst (λ (x : List ℕ). PlanRows corridor (demandsIn links steps demands) (recordIn links steps words) links steps (k + 1) (payloadOf m lent) x) (sym put)
+            (plan-more corridor _ _ links steps ready k r (k * ((links + 1) * 4)) _ _ ys (p .rows) h refl refl (row-read corridor demands words links steps k h));
+        holds = ap length e ∙ put-length-same file r ys ∙ p .holds;
+      }
+
+  pub put-ended : (k : ℕ) (lent file : List ℕ) → PlanPut corridor demands words links steps k lent file → steps ≤ k
+      → (payloadOf (planLength links steps) file ≡ converted corridor (demandsIn links steps demands) (recordIn links steps words)) × Holds (planLength links steps) file
+  put-ended k lent file p h = (plan-ended corridor _ _ links steps ready k _ _ (p .rows) h, p .holds)
+
+-- ---- sealed: m is the plan's length as the code has it
+
+pub seal-fits : (links steps m room : ℕ) → Told links steps → room ≡ blocksFor (planLength links steps) * 512 → m ≡ steps * ((links + 1) * 2)
+    → (room ≡ blocksFor m * 512) × (m ≤ 4294967295)
+unfolding listLength
+seal-fits links steps m room t h e =
+    let l : listLength Plan links steps ≤ 374662 = length-high Plan links steps t in
+    (omega arith, omega arith)
+
+pub plan-sealed : (links steps : ℕ) (corridor demands words : List ℕ) → FilesFit links steps corridor demands words
+    → (count : ℕ) (list : List ℕ) → list ≡ payloadPart 0 count corridor → count ≡ corridorLength links
+    → (m : ℕ) (file sealed : List ℕ) → m ≡ steps * ((links + 1) * 2) → payloadOf (planLength links steps) file ≡ converted list (demandsIn links steps demands) (recordIn links steps words)
+    → sealed ≡ fileOf 4 (payloadOf m file) → sealed ≡ planFile links steps corridor demands words
+unfolding planFile kindNumber
+plan-sealed links steps corridor demands words fit count list told fits m file sealed q e s =
+    let l : m ≡ planLength links steps = omega arith in
+    s
+    ∙ ap (λ (n : ℕ). fileOf 4 (payloadOf n file)) l
+    ∙ ap (fileOf 4) e
+    ∙ ap (λ (x : List ℕ). fileOf 4 (converted x (demandsIn links steps demands) (recordIn links steps words))) (sym (corridor-read links steps corridor demands words fit count list told fits))

@@ -1,0 +1,16 @@
+-- The corridor decides, then the demands.
+use borrow.Author.Needs.{needs}
+use Rattle.lists.proofs.Scans.{ranges-stop, ranges-next}
+use Rattle.files.proofs.inner.scans.ranges.Statement.{statement}
+use Rattle.files.proofs.inner.scans.ranges.Tie as tie
+
+pub ranges-spec : {M : Type 1} → statement M
+ranges-spec =
+    tie.close
+    (tie.spec
+    (λ c κs. search needs)
+    (λ c. search needs)
+    (λ c. search ranges-stop)
+    (λ c. search needs)
+    (λ c κs. search needs)
+    (λ c. search ranges-next))

@@ -1,0 +1,42 @@
+-- No step before k has a fault.
+use Prim.Native.Nat.{suc, _-_}
+use native.Mathlib.Omega.{arith}
+use borrow.Author.Needs.{needs}
+use Rattle.tables.specs.First.{firstNode}
+use Rattle.tables.proofs.First.{Passed}
+use Rattle.tables.proofs.Sets.{scans}
+use Rattle.lists.specs.Words.{roadOf, traceOf}
+use Rattle.convert.specs.Refusals.{stepAt}
+use Rattle.files.specs.Files.{demandsIn, recordIn}
+use Rattle.files.proofs.inner.scans.scan_steps.Statement.{statement}
+use Rattle.files.proofs.inner.scans.scan_steps.Tie as tie
+
+abbrev Inv-loop : tie.InvT-loop
+Inv-loop corridor demands links steps words k₀ k =
+    Passed k steps
+    (λ j. firstNode (suc links) j (stepAt (roadOf corridor (demandsIn links steps demands)) (traceOf (roadOf corridor (demandsIn links steps demands)) (recordIn links steps words)) j))
+
+abbrev μ-loop : tie.MeasureT-loop
+μ-loop corridor demands links steps words k₀ k = steps - k
+
+step-at-requires : tie.Need-step-at-requires Inv-loop μ-loop
+step-at-requires c κs =
+    let l = c .before in
+    let k = l .before .before .before .before in
+    (k .pre .0, (k .pre .1 .0, (k .pre .1 .1, (l .loop .inv .is, omega arith))))
+
+pub scan-steps-spec : {M : Type 1} → statement M
+scan-steps-spec =
+    tie.close
+    (tie.spec
+    Inv-loop
+    μ-loop
+    (λ c. search scans)
+    step-at-requires
+    (λ c. search needs)
+    (λ c. search scans)
+    (λ c. search needs)
+    (λ c. search needs)
+    (λ c. search needs)
+    (λ c. search scans)
+    (λ c. search scans))

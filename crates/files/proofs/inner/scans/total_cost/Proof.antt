@@ -1,0 +1,30 @@
+-- The sum of the states before k + 1, each at most the greatest sum of a row.
+use Prim.Native.Nat.{_-_}
+use native.Mathlib.Omega.{arith}
+use borrow.Author.Needs.{needs}
+use Rattle.tables.proofs.Sum.{Summed}
+use Rattle.tables.proofs.Sets.{sums}
+use Rattle.convert.proofs.Answers.{stateCost, cost-summed}
+use Rattle.files.specs.Files.{recordIn}
+use Rattle.files.proofs.inner.scans.total_cost.Statement.{statement}
+use Rattle.files.proofs.inner.scans.total_cost.Tie as tie
+
+abbrev Inv-loop : tie.InvT-loop
+Inv-loop links steps words total₀ k₀ total k = Summed k steps 558345748350 (stateCost links steps (recordIn links steps words)) total
+
+abbrev μ-loop : tie.MeasureT-loop
+μ-loop links steps words total₀ k₀ total k = steps - k
+
+pub total-cost-spec : {M : Type 1} → statement M
+total-cost-spec =
+    tie.close
+    (tie.spec
+    Inv-loop
+    μ-loop
+    (λ c. search sums)
+    (λ c κs. search needs)
+    (λ c. search needs)
+    (λ c. search needs)
+    (λ c. search needs)
+    (λ c. search sums)
+    (λ c. search cost-summed))

@@ -1,0 +1,39 @@
+-- The calls on files in the words of their promise: reading the three files in turn, then checking or converting the lists, then writing the
+-- plan file.
+use mathlib.Core.Bool.{_&&_}
+use mathlib.Core.List.{List}
+use mathlib.Core.Path.{_≡_}
+use Prim.Native.Nat.{ℕ, _*_}
+use lib.Dec.{eqb}
+use lib.ListN.{length}
+use Rattle.tables.specs.declared.Answer.{Answer}
+use Rattle.tables.specs.declared.Answer.the-variants.{Accepted}
+use Rattle.tables.specs.Answer.{orElse}
+use Rattle.lists.specs.Words.{planLength}
+use Rattle.lists.specs.Refusals.{sized}
+use Rattle.convert.specs.Convert.{converted, checkAnswer, convertAnswer}
+use Rattle.payload.specs.File.{blocksFor}
+use Rattle.block.specs.declared.Kind.the-variants.{Corridor, Demands, Record, Plan}
+use Rattle.block.specs.Kinds.{listLength}
+use Rattle.block.specs.Calls.{toldFits, readAnswer, wordsRead, writeAnswer, fileWritten}
+use Rattle.files.specs.Files.{checkFiles, convertFiles, planWritten}
+
+-- the three readers in turn, into lists of the lengths that N and K tell, and then `rest` of what they read
+unfoldable pub inTurn : ℕ → ℕ → List ℕ → List ℕ → List ℕ → List ℕ → List ℕ → List ℕ → (List ℕ → List ℕ → List ℕ → Answer) → Answer
+inTurn n k corridor demands words a b c rest =
+    orElse (readAnswer Corridor n k corridor (length a))
+    (orElse (readAnswer Demands n k demands (length b))
+    (orElse (readAnswer Record n k words (length c))
+    (rest (wordsRead Corridor n k corridor a) (wordsRead Demands n k demands b) (wordsRead Record n k words c))))
+
+pub record Turns (n k : ℕ) (corridor demands words a b c : List ℕ) : Type 0 where
+  pub checks : checkFiles n k corridor demands words ≡ orElse (sized (toldFits n k)) (inTurn n k corridor demands words a b c checkAnswer)
+  -- into a plan of the right length
+  pub converts : (room : ℕ)
+      → convertFiles n k corridor demands words room
+      ≡ orElse (sized (toldFits n k && eqb room (blocksFor (planLength n k) * 512)))
+      (inTurn n k corridor demands words a b c (λ x y z. convertAnswer x y z (planLength n k)))
+  -- the file that the writer makes of the converter's plan
+  pub writes : (lent : List ℕ) → convertFiles n k corridor demands words (length lent) ≡ Accepted
+      → planWritten n k corridor demands words lent
+      ≡ fileWritten Plan n k (converted (wordsRead Corridor n k corridor a) (wordsRead Demands n k demands b) (wordsRead Record n k words c)) lent

@@ -1,0 +1,12 @@
+-- The answer fits one number.
+use Rattle.host.proofs.Answers.{numbers}
+use Rattle.host.proofs.on_files.gigorchid_check_files.Statement.{statement}
+use Rattle.host.proofs.on_files.gigorchid_check_files.Tie as tie
+
+pub gigorchid-check-files-spec : {M : Type 1} → statement M
+gigorchid-check-files-spec =
+    tie.close
+    (tie.spec
+    (λ c κs. search numbers)
+    (λ c κs. search numbers)
+    (λ c. search numbers))

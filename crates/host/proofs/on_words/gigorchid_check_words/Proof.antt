@@ -1,0 +1,12 @@
+-- The answer fits one number.
+use Rattle.host.proofs.Answers.{numbers}
+use Rattle.host.proofs.on_words.gigorchid_check_words.Statement.{statement}
+use Rattle.host.proofs.on_words.gigorchid_check_words.Tie as tie
+
+pub gigorchid-check-words-spec : {M : Type 1} → statement M
+gigorchid-check-words-spec =
+    tie.close
+    (tie.spec
+    (λ c κs. search numbers)
+    (λ c κs. search numbers)
+    (λ c. search numbers))

@@ -1,0 +1,13 @@
+-- The answer fits one number.
+use Rattle.host.proofs.Answers.{numbers}
+use Rattle.host.proofs.on_words.gigorchid_convert_words.Statement.{statement}
+use Rattle.host.proofs.on_words.gigorchid_convert_words.Tie as tie
+
+pub gigorchid-convert-words-spec : {M : Type 1} → statement M
+gigorchid-convert-words-spec =
+    tie.close
+    (tie.spec
+    (λ c κs. search numbers)
+    (λ c κs. search numbers)
+    (λ c. search numbers)
+    (λ c. search numbers))

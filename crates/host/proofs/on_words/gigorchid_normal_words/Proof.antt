@@ -1,0 +1,14 @@
+-- The answer fits one number.
+use Rattle.host.proofs.Answers.{numbers}
+use Rattle.host.proofs.on_words.gigorchid_normal_words.Statement.{statement}
+use Rattle.host.proofs.on_words.gigorchid_normal_words.Tie as tie
+
+pub gigorchid-normal-words-spec : {M : Type 1} → statement M
+gigorchid-normal-words-spec =
+    tie.close
+    (tie.spec
+    (λ c κs. search numbers)
+    (λ c κs. search numbers)
+    (λ c. search numbers)
+    (λ c. search numbers)
+    (λ c. search numbers))

@@ -1,0 +1,13 @@
+-- The answer fits one number.
+use Rattle.host.proofs.Answers.{numbers}
+use Rattle.host.proofs.readers.gigorchid_read_record.Statement.{statement}
+use Rattle.host.proofs.readers.gigorchid_read_record.Tie as tie
+
+pub gigorchid-read-record-spec : {M : Type 1} → statement M
+gigorchid-read-record-spec =
+    tie.close
+    (tie.spec
+    (λ c κs. search numbers)
+    (λ c κs. search numbers)
+    (λ c. search numbers)
+    (λ c. search numbers))
