@@ -11,6 +11,7 @@ pub mod model;
 #[cfg(feature = "program")]
 pub mod program;
 pub mod random;
+pub mod samples;
 pub mod sweeps;
 pub mod tally;
 pub mod yardstick;

@@ -1,0 +1,54 @@
+#!/usr/bin/env bash
+# The C header and the example host: compiled with every warning an error, and run on the example files, plainly, under the
+# sanitizers, and under valgrind where that is installed.
+set -euo pipefail
+cd "$(dirname "$0")/../.."
+rt staticlib host
+work=$(mktemp -d)
+trap 'rm -rf "$work"' EXIT
+strict=(-Wall -Wextra -Wpedantic -Werror -Iinclude)
+
+if command -v g++ > /dev/null; then
+    printf '#include "gigorchid.h"\nint main() { return gigorchid_refusal_text(0) == nullptr; }\n' > "$work/header.cc"
+    g++ -std=c++11 "${strict[@]}" "$work/header.cc" -o "$work/header"
+    "$work/header"
+fi
+gcc -std=c11 -O2 "${strict[@]}" examples/host.c target/staticlib/libhost.a -o "$work/host"
+gcc -std=c11 -g -fsanitize=address,undefined -fno-sanitize-recover=all "${strict[@]}" examples/host.c target/staticlib/libhost.a -o "$work/checked"
+
+b=examples/b
+# run EXPECTED-STATUS CASE COMMAND..: what the host prints for a case is what examples/expected has
+run() {
+    local want=$1 case=$2 got=0
+    shift 2
+    "$@" 2 1 $b/corridor.blocks $b/demands.blocks "$b/$case.blocks" "$work/plan.blocks" > "$work/out" || got=$?
+    [ "$got" = "$want" ] || { echo "$case: status $got, not $want"; cat "$work/out"; exit 1; }
+    diff "examples/expected/$case.txt" "$work/out"
+}
+tools=("$work/host" "$work/checked")
+for tool in "${tools[@]}"; do
+    for case in case1 case3 case4 case6; do run 0 $case "$tool"; done
+    run 1 case5 "$tool"
+done
+if command -v valgrind > /dev/null; then
+    run 0 case1 valgrind --quiet --error-exitcode=9 "$work/host"
+    run 1 case5 valgrind --quiet --error-exitcode=9 "$work/host"
+fi
+
+# refused TEXT N K CORRIDOR DEMANDS RECORD: the host says so
+refused() {
+    local text=$1 got=0
+    shift
+    "$work/checked" "$@" > "$work/out" || got=$?
+    if [ "$got" != 1 ] || ! grep -q "$text" "$work/out"; then
+        echo "$*: status $got, and not: $text"
+        cat "$work/out"
+        exit 1
+    fi
+}
+head -c 511 $b/demands.blocks > "$work/cut.blocks"
+refused 'refused by 16 at row 0' 2 1 $b/corridor.blocks $b/demands.blocks "$work/plan.blocks"
+refused 'refused by 14 at row 0' 2 1 $b/corridor.blocks "$work/cut.blocks" $b/case1.blocks
+refused 'refused by 14 at row 0' 2 1 $b/corridor.blocks /dev/null $b/case1.blocks
+refused 'refused by 1 at row 0' 0 1 $b/corridor.blocks $b/demands.blocks $b/case1.blocks
+echo "the C host agrees with the examples"
