@@ -4,4 +4,4 @@ set -euo pipefail
 cd "$(dirname "$0")/../.."
 rt staticlib host
 cd tests
-cargo test --release --offline --quiet --features files
+cargo test --release --offline --quiet --features files,nodes

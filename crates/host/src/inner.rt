@@ -4,6 +4,8 @@ ghost use Rattle.tables.specs.Answer.{hostNumber};
 ghost use Rattle.tables.proofs.Answers.{Small};
 use tables::Answer;
 
+pub mod at_words;
+
 pub fn number(answer: Answer) -> u32
     requires { ⌜ Small answer ⌝ }
     ensures { λ r. ⌜ r ≡ hostNumber answer ⌝ }

@@ -1,0 +1,14 @@
+-- The answer fits one number.
+use Rattle.host.proofs.Answers.{numbers}
+use Rattle.host.proofs.inner.at_words.normal_number.Statement.{statement}
+use Rattle.host.proofs.inner.at_words.normal_number.Tie as tie
+
+pub normal-number-spec : {M : Type 1} → statement M
+normal-number-spec =
+    tie.close
+    (tie.spec
+    (λ c κs. search numbers)
+    (λ c κs. search numbers)
+    (λ c. search numbers)
+    (λ c. search numbers)
+    (λ c. search numbers))

@@ -1,0 +1,10 @@
+pub mod Counts
+pub mod Words
+pub mod Copies
+pub mod Answers
+pub mod FirstCall
+pub mod NoneLent
+pub mod OneLent
+pub mod TwoLent
+pub mod Promises
+pub mod AsLists
