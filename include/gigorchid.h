@@ -105,6 +105,39 @@ uint32_t gigorchid_normal_words(const uint32_t *corridor, size_t corridor_words,
                                 uint32_t *work, size_t work_words,
                                 uint32_t *normal, size_t normal_words);
 
+/* ---- the corridor as a list of nodes: N is their count less one, 2 to 65 of them, else 1 ---- */
+
+/* Link i ends at node i, and the ramp of node i feeds link i + 1. Node 0 has no link, and node N no ramp: their values are zero. */
+struct gigorchid_node {
+    uint32_t identifier;
+    uint32_t capacity;       /* F */
+    uint32_t full_speed;     /* V */
+    uint32_t wave_speed;     /* W */
+    uint32_t jam;            /* J */
+    uint32_t ramp_capacity;  /* C */
+    uint32_t queue_limit;    /* L */
+    uint32_t start_vehicles; /* n */
+    uint32_t start_queue;    /* l */
+};
+
+/* As the calls on words, with the same answers. */
+uint32_t gigorchid_simulate_nodes(const struct gigorchid_node *corridor, size_t nodes,
+                                  const uint32_t *demands, size_t demands_words,
+                                  const uint32_t *plan, size_t plan_words,
+                                  uint32_t *record, size_t record_words);
+uint32_t gigorchid_check_nodes(const struct gigorchid_node *corridor, size_t nodes,
+                               const uint32_t *demands, size_t demands_words,
+                               const uint32_t *record, size_t record_words);
+uint32_t gigorchid_convert_nodes(const struct gigorchid_node *corridor, size_t nodes,
+                                 const uint32_t *demands, size_t demands_words,
+                                 const uint32_t *record, size_t record_words,
+                                 uint32_t *plan, size_t plan_words);
+uint32_t gigorchid_normal_nodes(const struct gigorchid_node *corridor, size_t nodes,
+                                const uint32_t *demands, size_t demands_words,
+                                const uint32_t *plan, size_t plan_words,
+                                uint32_t *work, size_t work_words,
+                                uint32_t *normal, size_t normal_words);
+
 /* ---- files to words and back, told N and K ----
  *
  * A reader answers 1 for a bad N or K or a wrong count of words, then 14, then 15, 16, 17 block by block, then 18, then 1 if the file's own N or

@@ -1,6 +1,6 @@
 #!/usr/bin/env bash
-# The C header and the example host: compiled with every warning an error, and run on the example files, plainly, under the
-# sanitizers, and under valgrind where that is installed.
+# The C header and the C examples: compiled with every warning an error, and run, plainly, under the sanitizers, and under valgrind where
+# that is installed; the example host on the example files.
 set -euo pipefail
 cd "$(dirname "$0")/../.."
 rt staticlib host
@@ -13,8 +13,14 @@ if command -v g++ > /dev/null; then
     g++ -std=c++11 "${strict[@]}" "$work/header.cc" -o "$work/header"
     "$work/header"
 fi
-gcc -std=c11 -O2 "${strict[@]}" examples/host.c target/staticlib/libhost.a -o "$work/host"
-gcc -std=c11 -g -fsanitize=address,undefined -fno-sanitize-recover=all "${strict[@]}" examples/host.c target/staticlib/libhost.a -o "$work/checked"
+library=target/staticlib/libhost.a
+checks=(-g -fsanitize=address,undefined -fno-sanitize-recover=all)
+gcc -std=c11 -O2 "${strict[@]}" examples/calls.c $library -o "$work/calls"
+gcc -std=c11 "${checks[@]}" "${strict[@]}" examples/calls.c $library -o "$work/calls_checked"
+gcc -std=c11 -O2 "${strict[@]}" examples/host.c $library -o "$work/host"
+gcc -std=c11 "${checks[@]}" "${strict[@]}" examples/host.c $library -o "$work/checked"
+"$work/calls"
+"$work/calls_checked"
 
 b=examples/b
 # run EXPECTED-STATUS CASE COMMAND..: what the host prints for a case is what examples/expected has
@@ -31,6 +37,7 @@ for tool in "${tools[@]}"; do
     run 1 case5 "$tool"
 done
 if command -v valgrind > /dev/null; then
+    valgrind --quiet --error-exitcode=9 "$work/calls"
     run 0 case1 valgrind --quiet --error-exitcode=9 "$work/host"
     run 1 case5 valgrind --quiet --error-exitcode=9 "$work/host"
 fi
@@ -51,4 +58,4 @@ refused 'refused by 16 at row 0' 2 1 $b/corridor.blocks $b/demands.blocks "$work
 refused 'refused by 14 at row 0' 2 1 $b/corridor.blocks "$work/cut.blocks" $b/case1.blocks
 refused 'refused by 14 at row 0' 2 1 $b/corridor.blocks /dev/null $b/case1.blocks
 refused 'refused by 1 at row 0' 0 1 $b/corridor.blocks $b/demands.blocks $b/case1.blocks
-echo "the C host agrees with the examples"
+echo "the C examples agree with document 01"

@@ -1,0 +1,112 @@
+/* Every call of the header once, on B, document 01's worked corridor: case 1 simulated, checked, converted and brought to normal form, by words,
+ * by nodes and by files. It prints nothing and ends with status 0 where all is as worked there. */
+#include "gigorchid.h"
+
+#include <stdio.h>
+#include <string.h>
+
+enum { N = 2, K = 1, CORRIDOR = 28, DEMANDS = 7, PLAN = 6, RECORD = 26, BLOCK = 512 };
+
+static const struct gigorchid_node nodes[N + 1] = {
+    {10, 0, 0, 0, 0, 100, 1000, 0, 0},
+    {20, 100, 32768, 32768, 400, 60, 200, 200, 50},
+    {30, 100, 32768, 32768, 400, 0, 0, 200, 0},
+};
+static const uint32_t demands[DEMANDS] = {1, 30, 0, 10, 16384, 0, 0};
+static const uint32_t plan[PLAN] = {100, 0, 60, 32768, 0, 32768};
+static const uint32_t record[RECORD] = {0, 0, 0, 0, 200, 50, 80, 40, 200, 0, 100, 0, 0, 30, 0, 0, 120, 20, 0, 0, 200, 0, 0, 0, 370, 0};
+static const uint32_t normal[PLAN] = {0, 0, 50, 32768, 0, 32768};
+
+static uint32_t corridor[CORRIDOR], work[RECORD], found[PLAN];
+static uint8_t corridor_file[BLOCK], demands_file[BLOCK], record_file[BLOCK], plan_file[BLOCK];
+
+static int wrong(const char *what)
+{
+    printf("calls: %s\n", what);
+    return 1;
+}
+
+static int same(const uint32_t *words, const uint32_t *wanted, size_t count)
+{
+    return memcmp(words, wanted, count * sizeof *words) == 0;
+}
+
+static void clear(void)
+{
+    memset(work, 255, sizeof work);
+    memset(found, 255, sizeof found);
+}
+
+static int by_words(void)
+{
+    clear();
+    if (gigorchid_simulate_words(corridor, CORRIDOR, demands, DEMANDS, plan, PLAN, work, RECORD) != 0 || !same(work, record, RECORD))
+        return wrong("simulate_words");
+    if (gigorchid_check_words(corridor, CORRIDOR, demands, DEMANDS, record, RECORD) != 0)
+        return wrong("check_words");
+    if (gigorchid_convert_words(corridor, CORRIDOR, demands, DEMANDS, record, RECORD, found, PLAN) != 0 || !same(found, normal, PLAN))
+        return wrong("convert_words");
+    clear();
+    if (gigorchid_normal_words(corridor, CORRIDOR, demands, DEMANDS, plan, PLAN, work, RECORD, found, PLAN) != 0
+        || !same(work, record, RECORD) || !same(found, normal, PLAN))
+        return wrong("normal_words");
+    return 0;
+}
+
+static int by_nodes(void)
+{
+    clear();
+    if (gigorchid_simulate_nodes(nodes, N + 1, demands, DEMANDS, plan, PLAN, work, RECORD) != 0 || !same(work, record, RECORD))
+        return wrong("simulate_nodes");
+    if (gigorchid_check_nodes(nodes, N + 1, demands, DEMANDS, record, RECORD) != 0)
+        return wrong("check_nodes");
+    if (gigorchid_convert_nodes(nodes, N + 1, demands, DEMANDS, record, RECORD, found, PLAN) != 0 || !same(found, normal, PLAN))
+        return wrong("convert_nodes");
+    clear();
+    if (gigorchid_normal_nodes(nodes, N + 1, demands, DEMANDS, plan, PLAN, work, RECORD, found, PLAN) != 0 || !same(work, record, RECORD)
+        || !same(found, normal, PLAN))
+        return wrong("normal_nodes");
+    if (gigorchid_check_nodes(nodes, 1, demands, DEMANDS, record, RECORD) != 1)
+        return wrong("a corridor of one node");
+    return 0;
+}
+
+static int by_files(void)
+{
+    clear();
+    if (gigorchid_write_corridor(N, K, corridor, CORRIDOR, corridor_file, BLOCK) != 0
+        || gigorchid_write_demands(N, K, demands, DEMANDS, demands_file, BLOCK) != 0
+        || gigorchid_write_record(N, K, record, RECORD, record_file, BLOCK) != 0)
+        return wrong("a writer");
+    if (gigorchid_check_files(N, K, corridor_file, BLOCK, demands_file, BLOCK, record_file, BLOCK) != 0)
+        return wrong("check_files");
+    if (gigorchid_convert_files(N, K, corridor_file, BLOCK, demands_file, BLOCK, record_file, BLOCK, plan_file, BLOCK) != 0
+        || gigorchid_read_plan(N, K, plan_file, BLOCK, found, PLAN) != 0 || !same(found, normal, PLAN))
+        return wrong("convert_files");
+    return 0;
+}
+
+static int read_back(void)
+{
+    uint32_t first[CORRIDOR], second[DEMANDS], third[RECORD];
+    uint8_t again[BLOCK];
+    if (gigorchid_read_corridor(N, K, corridor_file, BLOCK, first, CORRIDOR) != 0 || !same(first, corridor, CORRIDOR))
+        return wrong("read_corridor");
+    if (gigorchid_read_demands(N, K, demands_file, BLOCK, second, DEMANDS) != 0 || !same(second, demands, DEMANDS))
+        return wrong("read_demands");
+    if (gigorchid_read_record(N, K, record_file, BLOCK, third, RECORD) != 0 || !same(third, record, RECORD))
+        return wrong("read_record");
+    if (gigorchid_write_plan(N, K, normal, PLAN, again, BLOCK) != 0 || memcmp(again, plan_file, BLOCK) != 0)
+        return wrong("write_plan");
+    record_file[9] ^= 1;
+    if (gigorchid_check_files(N, K, corridor_file, BLOCK, demands_file, BLOCK, record_file, BLOCK) != 15)
+        return wrong("a changed byte");
+    return 0;
+}
+
+int main(void)
+{
+    corridor[0] = N;
+    memcpy(corridor + 1, nodes, sizeof nodes);
+    return by_words() || by_nodes() || by_files() || read_back();
+}
