@@ -12,8 +12,10 @@ use lib.ListN.{length, getD}
 use Rattle.tables.specs.declared.Answer.{Answer}
 use Rattle.tables.specs.declared.Answer.the-variants.{Accepted, Refused}
 use Rattle.tables.specs.Answer.{orElse}
-use Rattle.tables.proofs.Answers.{Refuses, orElse-accepts, orElse-refuses, refusal-unless, left-refused, left-accepted}
+use Rattle.tables.proofs.Answers.{Refuses, orElse-accepts, orElse-refuses, left-refused, left-accepted}
+use Rattle.tables.proofs.Tests.{and-true}
 use Rattle.lists.specs.Refusals.{within, sized}
+use Rattle.lists.proofs.Limits.{sized-iff}
 use Rattle.block.specs.declared.Kind.{Kind}
 use Rattle.block.specs.declared.Kind.the-variants.{Corridor, Demands, Record, Plan}
 use Rattle.payload.specs.Word.{Words}
@@ -25,13 +27,6 @@ use Rattle.payload.proofs.Payloads.{payload-all, payload-put-all, put-length-sa
 use Rattle.payload.proofs.Refusals.{payload-kept}
 
 -- ---- tests
-
-pub sized-holds : (t : Bool) → (sized t ≡ Accepted) ↔ (t ≡ true)
-sized-holds t = refusal-unless t 1 0 0 (omega arith)
-
-pub and-true : (s t : Bool) → (s && t ≡ true) ↔ ((s ≡ true) × (t ≡ true))
-and-true true t = (λ e. (refl, e), λ h. h .1)
-and-true false t = (λ e. (e, cc), λ h. h .0)
 
 -- b is whether N and K are good as a call told it
 pub told-is : (n k : ℕ) (b : Bool) → b ≡ toldFits n k → b ≡ true → Told n k
@@ -117,8 +112,8 @@ unfolding fileAnswer
 file-kept kind n k file =
     let agrees : Bool = ownAgrees kind n k (payloadWord file 0) in
     let p = orElse-accepts (payloadAnswer (kindNumber kind) (listLength kind n k) file) (sized agrees) in (
-      λ e. record { payload = p .0 e .0; own = sized-holds agrees .0 (p .0 e .1) },
-      λ h. p .1 (h .payload, sized-holds agrees .1 (h .own)),
+      λ e. record { payload = p .0 e .0; own = sized-iff agrees .0 (p .0 e .1) },
+      λ h. p .1 (h .payload, sized-iff agrees .1 (h .own)),
     )
 
 -- a is the answer as a call gave it
@@ -136,7 +131,7 @@ unfolding readAnswer
 read-kept kind n k file room =
     let fits : Bool = eqb room (listLength kind n k) in
     let o = orElse-accepts (sized (toldFits n k && fits)) (fileAnswer kind n k file) in
-    let s = sized-holds (toldFits n k && fits) in
+    let s = sized-iff (toldFits n k && fits) in
     let a = and-true (toldFits n k) fits in (
       λ e.
           let t = a .0 (s .0 (o .0 e .0)) in
@@ -199,7 +194,7 @@ write-kept kind n k words room =
     let fits : Bool = eqb room (blocksFor (listLength kind n k) * 512) in
     let list : Bool = eqb (length words) (listLength kind n k) in
     let agrees : Bool = ownAgrees kind n k (getD words 0 0) in
-    let s = sized-holds (toldFits n k && (fits && (list && agrees))) in
+    let s = sized-iff (toldFits n k && (fits && (list && agrees))) in
     let a = and-true (toldFits n k) (fits && (list && agrees)) in
     let b = and-true fits (list && agrees) in
     let c = and-true list agrees in (

@@ -10,6 +10,7 @@ use Rattle.tables.specs.declared.Answer.{Answer}
 use Rattle.tables.specs.declared.Answer.the-variants.{Accepted, Refused}
 use Rattle.tables.specs.Answer.{orElse, left}
 use Rattle.tables.proofs.Answers.{Refuses, orElse-accepts, orElse-refuses}
+use Rattle.tables.proofs.Tests.{and-true}
 use Rattle.lists.specs.Words.{linksOf, stepsOf, roadOf, planOf, planLength, recordLength}
 use Rattle.lists.specs.Refusals.{sizes, sized, ranges, bounds}
 use Rattle.lists.proofs.Words.{record-length}
@@ -81,14 +82,10 @@ module _ (corridor demands plan : List ℕ) (work room : ℕ) where
       orElse-accepts (ranges (roadOf corridor demands)) (bounds (roadOf corridor demands) (planOf (roadOf corridor demands) plan)) .0
       (orElse-accepts (sized (simulateSizes corridor demands plan work)) _ .0 a .1) .0 in
       let refusal-none : normalRefusal corridor demands plan work room ≡ Accepted = sym (normal-sized t e h) ∙ a in
-      let room-right : eqb room (planLength (linksOf corridor) (stepsOf demands)) ≡ true = second (sizes corridor demands) (eqb room (planLength (linksOf corridor) (stepsOf demands))) (sym e ∙ h) in
+      let room-right : eqb room (planLength (linksOf corridor) (stepsOf demands)) ≡ true = and-true (sizes corridor demands) (eqb room (planLength (linksOf corridor) (stepsOf demands))) .0 (sym e ∙ h) .1 in
       let record-right : eqb (length (simulated corridor demands plan)) (recordLength (linksOf corridor) (stepsOf demands)) ≡ true =
       eq-eqb (length (simulated corridor demands plan)) (recordLength (linksOf corridor) (stepsOf demands)) (simulated-fits corridor demands plan) in
       simp (refusal-none, road-right, l .listed, room-right, record-right)
-    where
-      second : (a b : Bool) → (a && b) ≡ true → b ≡ true
-      second true b q = q
-      second false b q = absurd (true≢false (sym q))
 
   -- ---- the lists at exit
 

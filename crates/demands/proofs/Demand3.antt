@@ -10,6 +10,7 @@ use borrow.Author.Tests.{eq-eqb}
 use Rattle.tables.specs.declared.Answer.the-variants.{Accepted}
 use Rattle.tables.specs.Answer.{orElse}
 use Rattle.tables.proofs.Answers.{orElse-accepts}
+use Rattle.tables.proofs.Tests.{and-right}
 use Rattle.road.specs.Corridor.{Road}
 use Rattle.road.specs.Run.{junction, run}
 use Rattle.road.specs.Limits.{Limits}
@@ -27,10 +28,6 @@ use Rattle.convert.proofs.Facts.{Moves, Keeps, judged-iff}
 use Rattle.convert.proofs.Plans.{trace-limits}
 use Rattle.convert.proofs.Records.{record-costs, record-moves, queues-within, returned, returned-named, returned-bounded, returned-record}
 use Rattle.demands.specs.Demand3.{Valid, SomeValidPlan, recorded, recordedFlows, rateAt, limitAt, Returned, Demand3}
-
-and-true : (t : Bool) → (t && true) ≡ t
-and-true true = refl
-and-true false = refl
 
 -- "Take any corridor, demand series and start within limits."
 module _ (corridor demands : List ℕ) (within : limits corridor demands ≡ Accepted) where
@@ -54,7 +51,7 @@ module _ (corridor demands : List ℕ) (within : limits corridor demands ≡ Acc
       → simulateAnswer corridor demands plan room
       ≡ orElse (sized (eqb (length plan) (planLength (linksOf corridor) (stepsOf demands)))) (bounds road (planOf road plan))
   unfolding simulateAnswer simulateSizes
-  simulate-answer plan room e = simp (sizes-right, ranges-right, eq-eqb room _ e, and-true)
+  simulate-answer plan room e = simp (sizes-right, ranges-right, eq-eqb room _ e, and-right)
 
   pub check-answer : (words : List ℕ)
       → checkAnswer corridor demands words ≡ orElse (sized (eqb (length words) (recordLength (linksOf corridor) (stepsOf demands)))) (judged road words)
@@ -64,14 +61,14 @@ module _ (corridor demands : List ℕ) (within : limits corridor demands ≡ Acc
   pub convert-answer : (words : List ℕ) (room : ℕ) → room ≡ planLength (linksOf corridor) (stepsOf demands)
       → convertAnswer corridor demands words room ≡ checkAnswer corridor demands words
   unfolding convertAnswer checkAnswer
-  convert-answer words room e = simp (eq-eqb room _ e, and-true)
+  convert-answer words room e = simp (eq-eqb room _ e, and-right)
 
   pub normal-answer : (plan : List ℕ) (work room : ℕ) → work ≡ recordLength (linksOf corridor) (stepsOf demands) → room ≡ planLength (linksOf corridor) (stepsOf demands)
       → normalAnswer corridor demands plan work room
       ≡ orElse (orElse (sized (eqb (length plan) (planLength (linksOf corridor) (stepsOf demands)))) (bounds road (planOf road plan)))
       (judged road (simulated corridor demands plan))
   unfolding normalAnswer normalRefusal
-  normal-answer plan work room e f = simp (sizes-right, ranges-right, eq-eqb work _ e, eq-eqb room _ f, and-true)
+  normal-answer plan work room e f = simp (sizes-right, ranges-right, eq-eqb work _ e, eq-eqb room _ f, and-right)
 
   -- a record is accepted exactly where it has the right length and keeps 7 to 13
   pub accepted-iff : (words : List ℕ)

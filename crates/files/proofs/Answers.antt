@@ -10,6 +10,7 @@ use Rattle.tables.specs.declared.Answer.{Answer}
 use Rattle.tables.specs.declared.Answer.the-variants.{Accepted, Refused}
 use Rattle.tables.specs.Answer.{orElse, left}
 use Rattle.tables.proofs.Answers.{orElse-accepts, left-refused, left-accepted}
+use Rattle.tables.proofs.Tests.{and-true}
 use Rattle.lists.specs.Words.{roadOf, planLength}
 use Rattle.lists.specs.Refusals.{sized, ranges}
 use Rattle.lists.proofs.Scans.{or-else-stop, or-else-next}
@@ -20,7 +21,7 @@ use Rattle.payload.specs.File.{blocksFor, payloadWord}
 use Rattle.block.specs.declared.Kind.the-variants.{Corridor, Demands, Record, Plan}
 use Rattle.block.specs.Kinds.{Told, listLength, ownAgrees}
 use Rattle.block.specs.Calls.{toldFits, fileAnswer}
-use Rattle.block.proofs.Calls.{told-is, and-true, file-kept, file-bytes}
+use Rattle.block.proofs.Calls.{told-is, file-kept, file-bytes}
 use Rattle.files.specs.Files.{corridorIn, demandsIn, recordIn, filesAnswer, readThenCheck, checkFiles, convertFiles, planFile, planWritten}
 use Rattle.files.specs.Fits.{FilesFit, Accepts}
 use Rattle.files.proofs.Contents.{read-sizes, read-length}

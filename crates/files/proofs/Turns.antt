@@ -12,8 +12,10 @@ use Rattle.tables.specs.Answer.{orElse, left}
 use Rattle.tables.specs.Grid.{grid}
 use Rattle.tables.proofs.Answers.{orElse-assoc, orElse-accepts}
 use Rattle.tables.proofs.Grid.{grid-length}
+use Rattle.tables.proofs.Tests.{and-true}
 use Rattle.lists.specs.Words.{linksOf, stepsOf, roadOf, planLength, recordLength, planWords}
 use Rattle.lists.specs.Refusals.{sizes, sized, ranges}
+use Rattle.lists.proofs.Limits.{sized-iff}
 use Rattle.convert.specs.Refusals.{judged}
 use Rattle.convert.specs.Convert.{converted, checkAnswer, convertAnswer}
 use Rattle.payload.specs.File.{blocksFor, payloadOf, fileOf}
@@ -21,7 +23,7 @@ use Rattle.block.specs.declared.Kind.{Kind}
 use Rattle.block.specs.declared.Kind.the-variants.{Corridor, Demands, Record, Plan}
 use Rattle.block.specs.Kinds.{kindNumber, listLength, ownAgrees}
 use Rattle.block.specs.Calls.{toldFits, fileAnswer, readAnswer, wordsRead, writeAnswer, fileWritten}
-use Rattle.block.proofs.Calls.{told-is, and-true, sized-holds}
+use Rattle.block.proofs.Calls.{told-is}
 use Rattle.files.specs.Files.{corridorIn, demandsIn, recordIn, filesAnswer, readThenCheck, checkFiles, convertFiles, planFile, planWritten}
 use Rattle.files.specs.Fits.{FilesFit}
 use Rattle.files.specs.Turns.{inTurn, Turns}
@@ -132,7 +134,7 @@ as-lists n k corridor demands words a b c p q r =
           ∙ turns n k corridor demands words a b c told p q r (λ x y z. convertAnswer x y z (planLength n k)));
       writes = λ lent h.
           let told = orElse-accepts (sized (toldFits n k && eqb (length lent) (blocksFor (planLength n k) * 512))) _ .0 h in
-          let good = and-true (toldFits n k) _ .0 (sized-holds _ .0 (told .0)) in
+          let good = and-true (toldFits n k) _ .0 (sized-iff _ .0 (told .0)) in
           ap (λ (x : Answer). left x (planFile n k corridor demands words) lent) h
           ∙ written n k corridor demands words a b c (good .0) p q r lent (orElse-accepts (filesAnswer n k corridor demands words) _ .0 (told .1) .0) (good .1);
     }

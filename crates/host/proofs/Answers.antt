@@ -12,6 +12,7 @@ use Rattle.tables.specs.Answer.{orElse, unless, hostNumber}
 use Rattle.tables.specs.First.{firstPlace}
 use Rattle.tables.proofs.Answers.{Small, small-refusal, small-orElse, small-unless, orElse-assoc}
 use Rattle.tables.proofs.First.{small-node, small-place}
+use Rattle.tables.proofs.Tests.{and-true}
 use Rattle.road.specs.Corridor.{Link, Ramp, NodeState, Node, Road, Plan, Flows, nodes}
 use Rattle.road.specs.Step.{Junction, sending, outflow}
 use Rattle.road.specs.Run.{junction, next, cost}
@@ -27,7 +28,7 @@ use Rattle.block.specs.declared.Kind.the-variants.{Corridor, Demands, Record}
 use Rattle.block.specs.Kinds.{listLength}
 use Rattle.block.specs.Calls.{toldFits, fileAnswer, readAnswer, writeAnswer}
 use Rattle.block.proofs.Bounds.{file-bounded, read-bounded, write-bounded}
-use Rattle.block.proofs.Calls.{told-is, length-high, and-true}
+use Rattle.block.proofs.Calls.{told-is, length-high}
 use Rattle.files.specs.Files.{corridorIn, demandsIn, recordIn, filesAnswer, readThenCheck, checkFiles, convertFiles}
 use Rattle.convert.specs.Refusals.{sameState, unlessThen, fixedFault, stepFault, costFault, fixedAt, stepAt, judged}
 

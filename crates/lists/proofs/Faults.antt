@@ -69,7 +69,3 @@ exit-covers true true q = refl
 exit-covers true false q = refl
 exit-covers false true q = refl
 exit-covers false false q = refl
-
-pub both-true : (b : Bool) → b && true ≡ b
-both-true true = refl
-both-true false = refl

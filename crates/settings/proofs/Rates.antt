@@ -8,6 +8,7 @@ use borrow.Author.Tests.{leb-true, eqb-true, le-leb, eq-eqb}
 use lib.Dec.{leb, eqb}
 use Rattle.tables.specs.Least.{least}
 use Rattle.tables.proofs.Numbers.{le-or-lt, not-both}
+use Rattle.tables.proofs.Tests.{and-true}
 use Rattle.tables.proofs.Least.{least-bound, least-below, least-fails, Searchable, searched-passes, searched-fails}
 use Rattle.road.specs.Corridor.{Flows}
 use Rattle.road.specs.Step.{Junction, flowsWith}
@@ -17,17 +18,13 @@ use Rattle.settings.specs.declared.Found.the-variants.{Rate, Nothing}
 use Rattle.settings.specs.Rate.{fullFlows, gives, reaches, candidate, smallest, rateFor}
 use Rattle.settings.specs.Share.{Gives, SmallestRate, Finds}
 
-both : (a b : Bool) → (a && b) ≡ true → (a ≡ true) × (b ≡ true)
-both true b e = (refl, e)
-both false b e = absurd (true≢false (sym e))
-
 module _ (junction : Junction) (wanted : Flows) where
   -- ---- the two tests as facts
 
   pub gives-flows : (rate : ℕ) → gives junction wanted rate ≡ true → Gives junction wanted rate
   unfolding gives fullFlows
   gives-flows rate e =
-      let (p, q) = both _ _ e in
+      let (p, q) = and-true _ _ .0 e in
       flows-eq (fullFlows junction rate) wanted (eqb-true _ _ p) (eqb-true _ _ q)
 
   pub flows-gives : (rate : ℕ) → Gives junction wanted rate → gives junction wanted rate ≡ true
@@ -41,7 +38,7 @@ module _ (junction : Junction) (wanted : Flows) where
 
   reaches-facts : (rate : ℕ) → reaches junction wanted rate ≡ true → Reaches rate
   unfolding reaches
-  reaches-facts rate e = let (p, q) = both _ _ e in record { main = leb-true _ _ p; ramp = leb-true _ _ q }
+  reaches-facts rate e = let (p, q) = and-true _ _ .0 e in record { main = leb-true _ _ p; ramp = leb-true _ _ q }
 
   facts-reaches : (rate : ℕ) → Reaches rate → reaches junction wanted rate ≡ true
   unfolding reaches

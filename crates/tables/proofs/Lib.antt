@@ -1,4 +1,5 @@
 pub mod Numbers
+pub mod Tests
 pub mod Answers
 pub mod First
 pub mod Part
