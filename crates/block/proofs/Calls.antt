@@ -13,7 +13,7 @@ use Rattle.tables.specs.declared.Answer.{Answer}
 use Rattle.tables.specs.declared.Answer.the-variants.{Accepted, Refused}
 use Rattle.tables.specs.Answer.{orElse}
 use Rattle.tables.proofs.Answers.{Refuses, orElse-accepts, orElse-refuses, left-refused, left-accepted}
-use Rattle.tables.proofs.Tests.{and-true}
+use Rattle.tables.proofs.Tests.{and-iff}
 use Rattle.lists.specs.Refusals.{within, sized}
 use Rattle.lists.proofs.Limits.{sized-iff}
 use Rattle.block.specs.declared.Kind.{Kind}
@@ -32,9 +32,9 @@ use Rattle.payload.proofs.Refusals.{payload-kept}
 pub told-is : (n k : ℕ) (b : Bool) → b ≡ toldFits n k → b ≡ true → Told n k
 unfolding toldFits
 told-is n k b e h =
-    let p = and-true (within 1 64 n) (within 1 1440 k) .0 (sym e ∙ h) in
-    let links = and-true (leb 1 n) (leb n 64) .0 (p .0) in
-    let steps = and-true (leb 1 k) (leb k 1440) .0 (p .1) in
+    let p = and-iff (within 1 64 n) (within 1 1440 k) .0 (sym e ∙ h) in
+    let links = and-iff (leb 1 n) (leb n 64) .0 (p .0) in
+    let steps = and-iff (leb 1 k) (leb k 1440) .0 (p .1) in
     record {
       linksLow = leb-true 1 n (links .0);
       linksHigh = leb-true n 64 (links .1);
@@ -132,7 +132,7 @@ read-kept kind n k file room =
     let fits : Bool = eqb room (listLength kind n k) in
     let o = orElse-accepts (sized (toldFits n k && fits)) (fileAnswer kind n k file) in
     let s = sized-iff (toldFits n k && fits) in
-    let a = and-true (toldFits n k) fits in (
+    let a = and-iff (toldFits n k) fits in (
       λ e.
           let t = a .0 (s .0 (o .0 e .0)) in
           record { told = t .0; fits = eqb-true _ _ (t .1); answer = o .0 e .1 },
@@ -195,9 +195,9 @@ write-kept kind n k words room =
     let list : Bool = eqb (length words) (listLength kind n k) in
     let agrees : Bool = ownAgrees kind n k (getD words 0 0) in
     let s = sized-iff (toldFits n k && (fits && (list && agrees))) in
-    let a = and-true (toldFits n k) (fits && (list && agrees)) in
-    let b = and-true fits (list && agrees) in
-    let c = and-true list agrees in (
+    let a = and-iff (toldFits n k) (fits && (list && agrees)) in
+    let b = and-iff fits (list && agrees) in
+    let c = and-iff list agrees in (
       λ e.
           let p = a .0 (s .0 e) in
           let q = b .0 (p .1) in

@@ -1,22 +1,21 @@
 -- Laws of the normal form's answers and lists, as its code finds them: what the simulator refuses, then what the converter does.
 use Prim.Native.Nat.{ℕ}
-use mathlib.Core.Bool.{Bool, true, false, _&&_, true≢false}
+use mathlib.Core.Bool.{Bool, true, false, _&&_}
 use mathlib.Core.List.{List}
-use mathlib.Core.Path.{_≡_, refl, sym, ap, ap₂, _∙_}
+use mathlib.Core.Path.{_≡_, refl, sym, ap, _∙_}
 use borrow.Author.Tests.{eq-eqb}
 use lib.Dec.{eqb}
 use lib.ListN.{length}
 use Rattle.tables.specs.declared.Answer.{Answer}
 use Rattle.tables.specs.declared.Answer.the-variants.{Accepted, Refused}
-use Rattle.tables.specs.Answer.{orElse, left}
+use Rattle.tables.specs.Answer.{left}
 use Rattle.tables.proofs.Answers.{Refuses, orElse-accepts, orElse-refuses}
-use Rattle.tables.proofs.Tests.{and-true}
+use Rattle.tables.proofs.Tests.{and-iff}
 use Rattle.lists.specs.Words.{linksOf, stepsOf, roadOf, planOf, planLength, recordLength}
 use Rattle.lists.specs.Refusals.{sizes, sized, ranges, bounds}
 use Rattle.lists.proofs.Words.{record-length}
 use Rattle.simulate.specs.Simulate.{simulateSizes, simulateAnswer, simulated}
-use Rattle.simulate.proofs.Answers.{lengths, accepted-sizes}
-use Rattle.convert.specs.Refusals.{judged}
+use Rattle.simulate.proofs.Answers.{accepted-sizes}
 use Rattle.convert.specs.Convert.{converted, normalForm, convertAnswer, normalRefusal, normalAnswer}
 
 simulated-fits : (corridor demands plan : List ℕ) → length (simulated corridor demands plan) ≡ recordLength (linksOf corridor) (stepsOf demands)
@@ -82,7 +81,7 @@ module _ (corridor demands plan : List ℕ) (work room : ℕ) where
       orElse-accepts (ranges (roadOf corridor demands)) (bounds (roadOf corridor demands) (planOf (roadOf corridor demands) plan)) .0
       (orElse-accepts (sized (simulateSizes corridor demands plan work)) _ .0 a .1) .0 in
       let refusal-none : normalRefusal corridor demands plan work room ≡ Accepted = sym (normal-sized t e h) ∙ a in
-      let room-right : eqb room (planLength (linksOf corridor) (stepsOf demands)) ≡ true = and-true (sizes corridor demands) (eqb room (planLength (linksOf corridor) (stepsOf demands))) .0 (sym e ∙ h) .1 in
+      let room-right : eqb room (planLength (linksOf corridor) (stepsOf demands)) ≡ true = and-iff (sizes corridor demands) (eqb room (planLength (linksOf corridor) (stepsOf demands))) .0 (sym e ∙ h) .1 in
       let record-right : eqb (length (simulated corridor demands plan)) (recordLength (linksOf corridor) (stepsOf demands)) ≡ true =
       eq-eqb (length (simulated corridor demands plan)) (recordLength (linksOf corridor) (stepsOf demands)) (simulated-fits corridor demands plan) in
       simp (refusal-none, road-right, l .listed, room-right, record-right)

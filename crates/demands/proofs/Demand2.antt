@@ -1,7 +1,7 @@
 -- Demand 2 is proved: the record by how it is laid out, the files by the laws of block files.
 use Prim.Native.Nat.{ℕ}
 use mathlib.Core.List.{List}
-use mathlib.Core.Path.{_≡_, _∙_}
+use mathlib.Core.Path.{_∙_}
 use native.Mathlib.Nat.{le-of-lt}
 use native.Mathlib.Omega.{arith}
 use Rattle.road.specs.Run.{run}

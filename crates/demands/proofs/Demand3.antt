@@ -1,6 +1,6 @@
 -- Demand 3, over lists of words.
 use Prim.Native.Nat.{ℕ, suc, _≤_, _<_}
-use mathlib.Core.Bool.{Bool, true, false, _&&_}
+use mathlib.Core.Bool.{true, and-true}
 use mathlib.Core.List.{List}
 use mathlib.Core.Path.{_≡_, refl, sym, ap, subst, _∙_}
 use mathlib.Core.Logic.{_↔_}
@@ -10,7 +10,6 @@ use borrow.Author.Tests.{eq-eqb}
 use Rattle.tables.specs.declared.Answer.the-variants.{Accepted}
 use Rattle.tables.specs.Answer.{orElse}
 use Rattle.tables.proofs.Answers.{orElse-accepts}
-use Rattle.tables.proofs.Tests.{and-right}
 use Rattle.road.specs.Corridor.{Road}
 use Rattle.road.specs.Run.{junction, run}
 use Rattle.road.specs.Limits.{Limits}
@@ -51,7 +50,7 @@ module _ (corridor demands : List ℕ) (within : limits corridor demands ≡ Acc
       → simulateAnswer corridor demands plan room
       ≡ orElse (sized (eqb (length plan) (planLength (linksOf corridor) (stepsOf demands)))) (bounds road (planOf road plan))
   unfolding simulateAnswer simulateSizes
-  simulate-answer plan room e = simp (sizes-right, ranges-right, eq-eqb room _ e, and-right)
+  simulate-answer plan room e = simp (sizes-right, ranges-right, eq-eqb room _ e, and-true)
 
   pub check-answer : (words : List ℕ)
       → checkAnswer corridor demands words ≡ orElse (sized (eqb (length words) (recordLength (linksOf corridor) (stepsOf demands)))) (judged road words)
@@ -61,14 +60,14 @@ module _ (corridor demands : List ℕ) (within : limits corridor demands ≡ Acc
   pub convert-answer : (words : List ℕ) (room : ℕ) → room ≡ planLength (linksOf corridor) (stepsOf demands)
       → convertAnswer corridor demands words room ≡ checkAnswer corridor demands words
   unfolding convertAnswer checkAnswer
-  convert-answer words room e = simp (eq-eqb room _ e, and-right)
+  convert-answer words room e = simp (eq-eqb room _ e, and-true)
 
   pub normal-answer : (plan : List ℕ) (work room : ℕ) → work ≡ recordLength (linksOf corridor) (stepsOf demands) → room ≡ planLength (linksOf corridor) (stepsOf demands)
       → normalAnswer corridor demands plan work room
       ≡ orElse (orElse (sized (eqb (length plan) (planLength (linksOf corridor) (stepsOf demands)))) (bounds road (planOf road plan)))
       (judged road (simulated corridor demands plan))
   unfolding normalAnswer normalRefusal
-  normal-answer plan work room e f = simp (sizes-right, ranges-right, eq-eqb work _ e, eq-eqb room _ f, and-right)
+  normal-answer plan work room e f = simp (sizes-right, ranges-right, eq-eqb work _ e, eq-eqb room _ f, and-true)
 
   -- a record is accepted exactly where it has the right length and keeps 7 to 13
   pub accepted-iff : (words : List ℕ)

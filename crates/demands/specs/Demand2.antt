@@ -1,14 +1,13 @@
 -- Demand 2 in its own words: the simulator's record, and block files.
 use Prim.Native.Nat.{ℕ, _≤_, _<_, _+_, _%_, _/_}
 use mathlib.Core.List.{List}
-use mathlib.Core.Logic.{_↔_}
 use mathlib.Core.Path.{_≡_}
 use lib.ListN.{length, getD}
 use Rattle.tables.specs.declared.Answer.{Answer}
 use Rattle.tables.specs.declared.Answer.the-variants.{Accepted, Refused}
-use Rattle.road.specs.Corridor.{Road, Plan, Trace}
+use Rattle.road.specs.Corridor.{Road, Plan}
 use Rattle.road.specs.Run.{planFlows, stateAt, noFlow, run, cost}
-use Rattle.lists.specs.Words.{linksOf, stepsOf, roadOf, planOf, traceOf, traceLength, recordLength}
+use Rattle.lists.specs.Words.{roadOf, planOf, traceOf, traceLength, recordLength}
 use Rattle.simulate.specs.Simulate.{simulated}
 use Rattle.payload.specs.Word.{Bytes, Words}
 use Rattle.payload.specs.File.{blocksFor, OneChange}

@@ -2,7 +2,7 @@
 use Prim.Native.Nat.{ℕ, _*_}
 use mathlib.Core.Bool.{Bool, true, false, _&&_}
 use mathlib.Core.List.{List}
-use mathlib.Core.Path.{_≡_, refl, sym, ap, ap₂, _∙_}
+use mathlib.Core.Path.{_≡_, refl, sym, ap, _∙_}
 use borrow.Author.Tests.{eqb-true, eq-eqb}
 use lib.Dec.{eqb}
 use lib.ListN.{length}
@@ -10,7 +10,7 @@ use Rattle.tables.specs.declared.Answer.{Answer}
 use Rattle.tables.specs.declared.Answer.the-variants.{Accepted, Refused}
 use Rattle.tables.specs.Answer.{orElse, left}
 use Rattle.tables.proofs.Answers.{orElse-accepts, left-refused, left-accepted}
-use Rattle.tables.proofs.Tests.{and-true}
+use Rattle.tables.proofs.Tests.{and-iff}
 use Rattle.lists.specs.Words.{roadOf, planLength}
 use Rattle.lists.specs.Refusals.{sized, ranges}
 use Rattle.lists.proofs.Scans.{or-else-stop, or-else-next}
@@ -77,7 +77,7 @@ module _ (n k : ℕ) (corridor demands words : List ℕ) (a : Answer) (e : a ≡
       tests : FilesFit n k corridor demands words → true ≡ recordTest (corridorIn n corridor) (demandsIn n k demands) (length (recordIn n k words))
       tests fit =
           sym
-          (and-true _ _ .1 (
+          (and-iff _ _ .1 (
             read-sizes n k corridor demands words fit,
             eq-eqb _ _ (read-length n k corridor demands words fit),
           ))
@@ -119,7 +119,7 @@ room-right n k room m blocks b e h q p =
 
 pub room-told : (n k room : ℕ) (t : Bool) → t ≡ roomFits n k room → t ≡ true → Told n k × (room ≡ blocksFor (planLength n k) * 512)
 room-told n k room t e h =
-    let r = and-true (toldFits n k) (eqb room (blocksFor (planLength n k) * 512)) .0 (sym e ∙ h) in
+    let r = and-iff (toldFits n k) (eqb room (blocksFor (planLength n k) * 512)) .0 (sym e ∙ h) in
     (told-is n k _ refl (r .0), eqb-true _ _ (r .1))
 
 module _ (n k : ℕ) (corridor demands words lent : List ℕ) (t : Bool) (e : t ≡ roomFits n k (length lent)) where

@@ -18,7 +18,7 @@ use Rattle.payload.proofs.Payloads.{payload-part, payload-put, put-length-same}
 use Rattle.block.specs.declared.Kind.the-variants.{Plan}
 use Rattle.block.specs.Kinds.{Told, kindNumber, listLength}
 use Rattle.block.proofs.Calls.{length-high}
-use Rattle.files.specs.Files.{corridorIn, demandsIn, recordIn, planFile}
+use Rattle.files.specs.Files.{demandsIn, recordIn, planFile}
 use Rattle.files.specs.Fits.{Holds, FilesFit, planRowIn}
 use Rattle.files.proofs.Contents.{corridor-read}
 

@@ -1,6 +1,6 @@
 -- Rows unpacked out of the files: each is the row of the list that the file holds, and says of its step what that list says.
 use Prim.Native.Nat.{ℕ, suc, _+_, _-_, _*_, _≤_}
-use mathlib.Core.List.{List, []}
+use mathlib.Core.List.{List}
 use mathlib.Core.Path.{_≡_, sym, ap, subst, _∙_}
 use native.Mathlib.Numerals.{add-one}
 use native.Mathlib.Omega.{arith}
@@ -18,10 +18,9 @@ use Rattle.convert.specs.Refusals.{fixedAt}
 use Rattle.convert.specs.Rows.{bareRoad, fixedFaultIn, Ready}
 use Rattle.convert.proofs.Rows.{TraceRow, fixed-row-told, demand-lent, trace-lent, after-lent}
 use Rattle.convert.proofs.Answers.{stateCost, row-cost-told}
-use Rattle.payload.specs.File.{blocksFor, payloadOf, payloadPart}
+use Rattle.payload.specs.File.{payloadOf, payloadPart}
 use Rattle.payload.proofs.Payloads.{payload-part}
 use Rattle.files.specs.Files.{demandsIn, recordIn}
-use Rattle.files.specs.Fits.{Holds}
 
 -- ---- w words from word `from` on of m payload words, unpacked
 

@@ -5,14 +5,13 @@ use mathlib.Core.List.{List}
 use mathlib.Core.Path.{_≡_, refl, sym, ap, ap₂, _∙_}
 use borrow.Author.Tests.{eq-eqb}
 use lib.Dec.{eqb}
-use lib.ListN.{length, getD}
+use lib.ListN.{length}
 use Rattle.tables.specs.declared.Answer.{Answer}
 use Rattle.tables.specs.declared.Answer.the-variants.{Accepted, Refused}
 use Rattle.tables.specs.Answer.{orElse, left}
-use Rattle.tables.specs.Grid.{grid}
 use Rattle.tables.proofs.Answers.{orElse-assoc, orElse-accepts}
 use Rattle.tables.proofs.Grid.{grid-length}
-use Rattle.tables.proofs.Tests.{and-true}
+use Rattle.tables.proofs.Tests.{and-iff}
 use Rattle.lists.specs.Words.{linksOf, stepsOf, roadOf, planLength, recordLength, planWords}
 use Rattle.lists.specs.Refusals.{sizes, sized, ranges}
 use Rattle.lists.proofs.Limits.{sized-iff}
@@ -27,7 +26,7 @@ use Rattle.block.proofs.Calls.{told-is}
 use Rattle.files.specs.Files.{corridorIn, demandsIn, recordIn, filesAnswer, readThenCheck, checkFiles, convertFiles, planFile, planWritten}
 use Rattle.files.specs.Fits.{FilesFit}
 use Rattle.files.specs.Turns.{inTurn, Turns}
-use Rattle.files.proofs.Contents.{own-links, own-steps, read-sizes, read-length}
+use Rattle.files.proofs.Contents.{own-links, own-steps}
 use Rattle.files.proofs.Answers.{files-fit}
 
 -- an answer that comes second counts only where the first accepts
@@ -97,7 +96,7 @@ module _ (n k : ℕ) (corridor demands words a b c : List ℕ) (told : toldFits 
       → writeAnswer Plan n k (converted (corridorIn n corridor) (demandsIn n k demands) (recordIn n k words)) room ≡ Accepted
   unfolding writeAnswer listLength ownAgrees
   plan-taken room fit h =
-      ap sized (and-true _ _ .1 (told, and-true _ _ .1 (h, and-true _ _ .1 (eq-eqb _ _ (plan-count fit), refl))))
+      ap sized (and-iff _ _ .1 (told, and-iff _ _ .1 (h, and-iff _ _ .1 (eq-eqb _ _ (plan-count fit), refl))))
 
   written : (lent : List ℕ) → filesAnswer n k corridor demands words ≡ Accepted → eqb (length lent) (blocksFor (planLength n k) * 512) ≡ true
       → planFile n k corridor demands words
@@ -129,12 +128,12 @@ as-lists n k corridor demands words a b c p q r =
       converts = λ room.
           sized-same (toldFits n k && eqb room (blocksFor (planLength n k) * 512)) _ _
           (λ t.
-          let told = and-true (toldFits n k) _ .0 t .0 in
+          let told = and-iff (toldFits n k) _ .0 t .0 in
           second-same (filesAnswer n k corridor demands words) _ _ (convert-same n k corridor demands words a b c told p q r)
           ∙ turns n k corridor demands words a b c told p q r (λ x y z. convertAnswer x y z (planLength n k)));
       writes = λ lent h.
           let told = orElse-accepts (sized (toldFits n k && eqb (length lent) (blocksFor (planLength n k) * 512))) _ .0 h in
-          let good = and-true (toldFits n k) _ .0 (sized-iff _ .0 (told .0)) in
+          let good = and-iff (toldFits n k) _ .0 (sized-iff _ .0 (told .0)) in
           ap (λ (x : Answer). left x (planFile n k corridor demands words) lent) h
           ∙ written n k corridor demands words a b c (good .0) p q r lent (orElse-accepts (filesAnswer n k corridor demands words) _ .0 (told .1) .0) (good .1);
     }

@@ -14,8 +14,7 @@ use Rattle.lists.specs.Refusals.{sized}
 use Rattle.convert.specs.Convert.{converted, checkAnswer, convertAnswer}
 use Rattle.payload.specs.File.{blocksFor}
 use Rattle.block.specs.declared.Kind.the-variants.{Corridor, Demands, Record, Plan}
-use Rattle.block.specs.Kinds.{listLength}
-use Rattle.block.specs.Calls.{toldFits, readAnswer, wordsRead, writeAnswer, fileWritten}
+use Rattle.block.specs.Calls.{toldFits, readAnswer, wordsRead, fileWritten}
 use Rattle.files.specs.Files.{checkFiles, convertFiles, planWritten}
 
 -- the three readers in turn, into lists of the lengths that N and K tell, and then `rest` of what they read

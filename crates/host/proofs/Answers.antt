@@ -12,7 +12,7 @@ use Rattle.tables.specs.Answer.{orElse, unless, hostNumber}
 use Rattle.tables.specs.First.{firstPlace}
 use Rattle.tables.proofs.Answers.{Small, small-refusal, small-orElse, small-unless, orElse-assoc}
 use Rattle.tables.proofs.First.{small-node, small-place}
-use Rattle.tables.proofs.Tests.{and-true}
+use Rattle.tables.proofs.Tests.{and-iff}
 use Rattle.road.specs.Corridor.{Link, Ramp, NodeState, Node, Road, Plan, Flows, nodes}
 use Rattle.road.specs.Step.{Junction, sending, outflow}
 use Rattle.road.specs.Run.{junction, next, cost}
@@ -155,13 +155,13 @@ module _ (corridor demands : List ℕ) where
   unfolding simulateAnswer simulateSizes
   simulate-small plan room =
       sized-small (simulateSizes corridor demands plan room) _
-      (λ e. let s = and-true (sizes corridor demands) _ .0 e .0 in small-orElse (ranges (roadOf corridor demands)) _ (ranges-fit s) (bounds-fit plan s))
+      (λ e. let s = and-iff (sizes corridor demands) _ .0 e .0 in small-orElse (ranges (roadOf corridor demands)) _ (ranges-fit s) (bounds-fit plan s))
 
   pub check-small : (words : List ℕ) → Small (checkAnswer corridor demands words)
   unfolding checkAnswer
   check-small words =
       sized-small (sizes corridor demands && eqb (length words) (recordLength (linksOf corridor) (stepsOf demands))) _
-      (λ e. let s = and-true (sizes corridor demands) _ .0 e .0 in small-orElse (ranges (roadOf corridor demands)) _ (ranges-fit s) (judged-fit words s))
+      (λ e. let s = and-iff (sizes corridor demands) _ .0 e .0 in small-orElse (ranges (roadOf corridor demands)) _ (ranges-fit s) (judged-fit words s))
 
   pub convert-small : (words : List ℕ) (room : ℕ) → Small (convertAnswer corridor demands words room)
   unfolding convertAnswer
@@ -169,7 +169,7 @@ module _ (corridor demands : List ℕ) where
       sized-small
       (sizes corridor demands
       && (eqb (length words) (recordLength (linksOf corridor) (stepsOf demands)) && eqb room (planLength (linksOf corridor) (stepsOf demands)))) _
-      (λ e. let s = and-true (sizes corridor demands) _ .0 e .0 in small-orElse (ranges (roadOf corridor demands)) _ (ranges-fit s) (judged-fit words s))
+      (λ e. let s = and-iff (sizes corridor demands) _ .0 e .0 in small-orElse (ranges (roadOf corridor demands)) _ (ranges-fit s) (judged-fit words s))
 
   pub normal-small : (plan : List ℕ) (work room : ℕ) → Small (normalAnswer corridor demands plan work room)
   unfolding normalAnswer normalRefusal
@@ -183,7 +183,7 @@ module _ (corridor demands : List ℕ) where
       subst Small (sym (orElse-assoc (sized fits) rest last))
       (sized-small fits (orElse rest last)
       (λ e.
-      let s = and-true (sizes corridor demands) _ .0 e .0 in
+      let s = and-iff (sizes corridor demands) _ .0 e .0 in
       small-orElse rest last (small-orElse (ranges (roadOf corridor demands)) _ (ranges-fit s) (bounds-fit plan s)) (judged-fit (simulated corridor demands plan) s)))
 
 -- ---- those of the readers and the writers
@@ -220,7 +220,7 @@ module _ (n k : ℕ) (corridor demands words : List ℕ) where
   pub convert-files-small : (room : ℕ) → Small (convertFiles n k corridor demands words room)
   unfolding convertFiles
   convert-files-small room =
-      sized-small (toldFits n k && eqb room (blocksFor (planLength n k) * 512)) _ (λ e. then-check-small (and-true (toldFits n k) _ .0 e .0))
+      sized-small (toldFits n k && eqb room (blocksFor (planLength n k) * 512)) _ (λ e. then-check-small (and-iff (toldFits n k) _ .0 e .0))
 
 -- ---- a call's answer x, as the code has it in a
 

@@ -5,14 +5,13 @@ use mathlib.Core.Logic.{⊎-elim}
 use mathlib.Core.Path.{_≡_, refl, sym, ap, _∙_}
 use native.Mathlib.Nat.{not-suc-le-zero}
 use native.Mathlib.Omega.{arith}
-use borrow.Author.Tests.{eq-eqb, ne-eqb, eqb-false}
-use lib.Dec.{leb, eqb}
-use Rattle.tables.specs.Answer.{unless}
+use borrow.Author.Tests.{eq-eqb, ne-eqb}
+use lib.Dec.{eqb}
 use Rattle.tables.specs.Least.{least}
 use Rattle.tables.proofs.Least.{least-below, least-is}
 use Rattle.tables.proofs.Numbers.{le-or-lt, not-both}
-use Rattle.road.specs.Corridor.{Link, Ramp, NodeState, Node}
-use Rattle.lists.specs.Refusals.{implies, linkFault, fresh, startFault, demandFault}
+use Rattle.road.specs.Corridor.{Link}
+use Rattle.lists.specs.Refusals.{implies, linkFault, fresh}
 
 -- ---- 2
 

@@ -9,7 +9,7 @@ use Rattle.tables.specs.Answer.{orElse, refusal, unless}
 use Rattle.tables.specs.First.{firstNode, firstPlace}
 use Rattle.tables.specs.Least.{least}
 use Rattle.road.specs.Corridor.{Link, Ramp, Node, Road, Plan, nodes}
-use Rattle.lists.specs.Words.{linksOf, stepsOf, roadOf, planOf, corridorLength, demandsLength, planLength}
+use Rattle.lists.specs.Words.{linksOf, stepsOf, roadOf, corridorLength, demandsLength}
 
 abbrev pub within : ℕ → ℕ → ℕ → Bool
 within low high x = leb low x && leb x high

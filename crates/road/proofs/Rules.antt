@@ -1,13 +1,13 @@
 -- Laws of rules 1 to 6, grouped by rule.
 use Prim.Native.Nat.{ℕ, _+_, _-_, _*_, _/_, _≤_, _<_, min}
-use mathlib.Core.Path.{_≡_, refl, ap, ap₂, sym, _∙_}
+use mathlib.Core.Path.{_≡_, ap, ap₂, _∙_}
 use mathlib.Core.Logic.{⊎-elim}
 use native.Mathlib.Nat.{le-trans, mul-comm, mul-right-comm, mul-assoc, mul-le-mul-left, mul-le-mul-right, mul-add, add-mul, mul-sub, div-mul-le-self, lt-div-mul-add, le-div-iff-mul-le, le-of-mul-le-mul-right, zero-mul, div-zero, eq-zero-or-pos}
 use native.Mathlib.Omega.{arith}
 use borrow.Author.Tests.{le-leb, lt-leb}
 use Rattle.tables.proofs.Numbers.{le-or-lt}
 use Rattle.road.specs.Corridor.{Link, Ramp, NodeState, Flows}
-use Rattle.road.specs.Step.{Junction, sending, exit, through, offer, receiving, passed, merge, flowsWith, outflow, moved}
+use Rattle.road.specs.Step.{Junction, sending, exit, through, offer, receiving, passed, merge, flowsWith, outflow}
 use Rattle.road.proofs.Quotients.{share-le, share-le-part, quotient-falls, product-splits, product-grows, ceiling, ceiling-reaches, ceiling-near, ceiling-least}
 
 -- ---- values are equal by their numbers

@@ -3,7 +3,7 @@ use Prim.Native.Nat.{ℕ, zero, suc, _+_}
 use mathlib.Core.Bool.{cond}
 use lib.Dec.{ltb}
 use Rattle.tables.specs.Sum.{sum}
-use Rattle.road.specs.Corridor.{Node, NodeState, Road, Plan, Flows, Trace, nodes}
+use Rattle.road.specs.Corridor.{NodeState, Road, Plan, Flows, Trace, nodes}
 use Rattle.road.specs.Step.{Junction, receiving, flowsWith, outflow, moved}
 
 -- S, what node i's merge may pass on in step k: the receiving of link i + 1; past link N traffic is free, and 65,536 is as much as any link sends

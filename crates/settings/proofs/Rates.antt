@@ -1,22 +1,21 @@
 -- Laws of the search for a rate: halving finds the smallest rate that gives the flows, and finds none only where none of 0..C gives them.
-use Prim.Native.Nat.{ℕ, _≤_, _<_}
-use mathlib.Core.Bool.{Bool, true, false, cond, _&&_, true≢false}
+use Prim.Native.Nat.{ℕ, _≤_}
+use mathlib.Core.Bool.{Bool, true, false, cond}
 use mathlib.Core.Path.{_≡_, refl, sym, ap, subst, _∙_}
 use mathlib.Core.Logic.{_↔_, ⊎-elim}
 use native.Mathlib.Omega.{arith}
 use borrow.Author.Tests.{leb-true, eqb-true, le-leb, eq-eqb}
-use lib.Dec.{leb, eqb}
 use Rattle.tables.specs.Least.{least}
 use Rattle.tables.proofs.Numbers.{le-or-lt, not-both}
-use Rattle.tables.proofs.Tests.{and-true}
+use Rattle.tables.proofs.Tests.{and-iff}
 use Rattle.tables.proofs.Least.{least-bound, least-below, least-fails, Searchable, searched-passes, searched-fails}
 use Rattle.road.specs.Corridor.{Flows}
-use Rattle.road.specs.Step.{Junction, flowsWith}
+use Rattle.road.specs.Step.{Junction}
 use Rattle.road.proofs.Rules.{flows-eq, main-falls, ramp-rises}
 use Rattle.settings.specs.declared.Found.{Found}
 use Rattle.settings.specs.declared.Found.the-variants.{Rate, Nothing}
 use Rattle.settings.specs.Rate.{fullFlows, gives, reaches, candidate, smallest, rateFor}
-use Rattle.settings.specs.Share.{Gives, SmallestRate, Finds}
+use Rattle.settings.specs.Share.{Gives, Finds}
 
 module _ (junction : Junction) (wanted : Flows) where
   -- ---- the two tests as facts
@@ -24,7 +23,7 @@ module _ (junction : Junction) (wanted : Flows) where
   pub gives-flows : (rate : ℕ) → gives junction wanted rate ≡ true → Gives junction wanted rate
   unfolding gives fullFlows
   gives-flows rate e =
-      let (p, q) = and-true _ _ .0 e in
+      let (p, q) = and-iff _ _ .0 e in
       flows-eq (fullFlows junction rate) wanted (eqb-true _ _ p) (eqb-true _ _ q)
 
   pub flows-gives : (rate : ℕ) → Gives junction wanted rate → gives junction wanted rate ≡ true
@@ -38,7 +37,7 @@ module _ (junction : Junction) (wanted : Flows) where
 
   reaches-facts : (rate : ℕ) → reaches junction wanted rate ≡ true → Reaches rate
   unfolding reaches
-  reaches-facts rate e = let (p, q) = and-true _ _ .0 e in record { main = leb-true _ _ p; ramp = leb-true _ _ q }
+  reaches-facts rate e = let (p, q) = and-iff _ _ .0 e in record { main = leb-true _ _ p; ramp = leb-true _ _ q }
 
   facts-reaches : (rate : ℕ) → Reaches rate → reaches junction wanted rate ≡ true
   unfolding reaches

@@ -1,5 +1,5 @@
 -- Laws of a node's setting: the node's share of demand 3.
-use Prim.Native.Nat.{ℕ, _+_, _*_, _/_, _≤_, _<_, min}
+use Prim.Native.Nat.{ℕ, _*_, _/_, _≤_, _<_}
 use mathlib.Core.Bool.{Bool, true, false}
 use mathlib.Core.Path.{_≡_, refl, sym, ap, subst, _∙_}
 use mathlib.Core.Logic.{_⊎_, _↔_, inl, inr, ⊎-elim}
@@ -8,20 +8,20 @@ use native.Mathlib.Omega.{arith}
 use borrow.Author.Tests.{eq-eqb, eqb-true}
 use lib.Dec.{eqb}
 use Rattle.tables.specs.Least.{least}
-use Rattle.tables.proofs.Numbers.{le-or-lt, not-both}
+use Rattle.tables.proofs.Numbers.{le-or-lt}
 use Rattle.tables.proofs.Least.{least-is}
 use Rattle.road.specs.Corridor.{Flows}
-use Rattle.road.specs.Step.{Junction, sending, through, offer, merge, flowsWith, outflow}
+use Rattle.road.specs.Step.{Junction, sending, flowsWith}
 use Rattle.road.specs.Limits.{JunctionLimits}
 use Rattle.road.proofs.Quotients.{share-le, ceiling}
 use Rattle.road.proofs.Rules.{SmallestLimit, some-limit-sends, sending-product, sending-capacity, sending-rises, sending-exact, offer-exact, merge-free, flows-sent, flows-offered, flows-metered, flows-fit}
 use Rattle.settings.specs.declared.Found.{Found}
 use Rattle.settings.specs.declared.Found.the-variants.{Rate, Nothing}
 use Rattle.settings.specs.declared.Setting.{Setting}
-use Rattle.settings.specs.declared.Setting.the-variants.{Full, Held}
+use Rattle.settings.specs.declared.Setting.the-variants.{Full}
 use Rattle.settings.specs.Rate.{rateFor}
 use Rattle.settings.specs.Setting.{heldLimit, settle, settingFor, rateIn, limitIn}
-use Rattle.settings.specs.Share.{Permitted, Gives, SmallestRate, NoRate, Finds, IsFull, IsHeld, IsSetting}
+use Rattle.settings.specs.Share.{Permitted, Gives, SmallestRate, Finds, IsFull, IsHeld, IsSetting}
 use Rattle.settings.proofs.Rates.{rate-finds, rate-iff}
 
 -- ---- the held limit

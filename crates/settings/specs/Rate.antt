@@ -3,7 +3,6 @@ use Prim.Native.Nat.{ℕ}
 use mathlib.Core.Bool.{Bool, cond, _&&_}
 use lib.Dec.{leb, eqb}
 use Rattle.tables.specs.Least.{least}
-use Rattle.road.specs.declared.Units.{Units}
 use Rattle.road.specs.Corridor.{Flows}
 use Rattle.road.specs.Step.{Junction, flowsWith}
 use Rattle.settings.specs.declared.Found.{Found}

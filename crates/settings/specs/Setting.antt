@@ -2,8 +2,6 @@
 use Prim.Native.Nat.{ℕ, _*_, _/_}
 use lib.Dec.{eqb}
 use Rattle.tables.specs.Least.{least}
-use Rattle.road.specs.declared.Units.{Units}
-use Rattle.road.specs.declared.Speed.{Speed}
 use Rattle.road.specs.Corridor.{Flows}
 use Rattle.road.specs.Step.{Junction}
 use Rattle.settings.specs.declared.Found.{Found}

@@ -1,8 +1,7 @@
 -- Laws of the run's loops: what one step asks and gives, and the invariants of the loops over all steps.
-use Prim.Native.Nat.{ℕ, zero, suc, _+_, _-_, _*_, _/_, _%_, _≤_, _<_}
+use Prim.Native.Nat.{ℕ, suc, _+_, _-_, _*_, _/_, _%_, _≤_, _<_}
 use mathlib.Core.List.{List, [], _∷_, _++_}
 use mathlib.Core.Path.{_≡_, refl, sym, ap, subst, _∙_}
-use native.Mathlib.Nat.{mul-le-mul-left}
 use native.Mathlib.Numerals.{add-one}
 use native.Mathlib.Omega.{arith}
 use borrow.Rule.Slice.PartMut.{putMid}
@@ -10,12 +9,12 @@ use lib.ListN.{length, getD, set, take, drop, length-append}
 use lib.Seq.{drop-cons, set-at, append-snoc, drop-length}
 use Rattle.tables.specs.Grid.{cell, grid}
 use Rattle.tables.specs.Sum.{sum}
-use Rattle.tables.proofs.Grid.{cell-same, Rowed, rowed-begun, rowed-words, rowed-grid}
+use Rattle.tables.proofs.Grid.{cell-same, Rowed, rowed-words, rowed-grid}
 use Rattle.tables.proofs.Numbers.{row-fits}
 use Rattle.tables.proofs.Part.{part-length}
 use Rattle.tables.proofs.Sum.{sum-none, sum-more}
-use Rattle.road.specs.Corridor.{Flows, Road, nodes}
-use Rattle.road.specs.Run.{stateAt, noFlow, run, cost}
+use Rattle.road.specs.Corridor.{Flows}
+use Rattle.road.specs.Run.{stateAt, run, cost}
 use Rattle.road.proofs.Runs.{run-flows, run-last}
 use Rattle.lists.specs.Words.{linksOf, stepsOf, roadOf, planOf, nodeWord, traceWord, traceWords, lowHigh, recordWords, traceLength, recordLength}
 use Rattle.lists.specs.Fits.{CorridorFits, RowFits}

@@ -1,6 +1,6 @@
 -- B of document 01 as word lists, with the plan and the record of case 1.
 use Prim.Native.Nat.{ℕ}
-use mathlib.Core.List.{List, [], _∷_, _++_}
+use mathlib.Core.List.{List, [], _∷_}
 use mathlib.Core.Path.{_≡_}
 use lib.ListN.{length}
 use Rattle.tables.specs.declared.Answer.{Answer}

@@ -16,7 +16,7 @@ use road::Speed;
 use settings::Setting;
 
 // The setting of node i that gives a row's flows from its state.
-fn setting_at(corridor: &[u32], links: usize, demand: &[u32], row: &[u32], i: usize) -> Setting
+pub fn setting_at(corridor: &[u32], links: usize, demand: &[u32], row: &[u32], i: usize) -> Setting
     requires { ⌜ (CorridorFits (now corridor) links) × (RowFits 2 (now demand) links) × (RowFits 4 (now row) links) ⌝ }
     requires { ⌜ ((j : ℕ) → j ≤ links → NodeKept (now corridor) (now demand) (now row) j) ⌝ }
     requires { ⌜ ((j : ℕ) → j ≤ links → flowsIn (now row) j .main ≤ stateIn (now row) j .vehicles) ⌝ }

@@ -1,8 +1,8 @@
 // One step on its rows: from a state's row to the record's row and to the next state's row.
 ghost use mathlib.Core.Path.{_≡_};
 ghost use mathlib.Core.List.{[]};
-ghost use Prim.Native.Nat.{ℕ, suc, _+_, _*_, _≤_, _<_};
-ghost use lib.ListN.{length, getD};
+ghost use Prim.Native.Nat.{ℕ, _+_, _*_, _≤_, _<_};
+ghost use lib.ListN.{length};
 ghost use Rattle.road.specs.Run.{inflow, next};
 ghost use Rattle.road.specs.Values.{stateOf, flowsOf};
 ghost use Rattle.lists.specs.Rows.{stateIn, flowsIn, stepRoad};

@@ -1,6 +1,6 @@
 // The run of all steps, row by row: into a record, or on the state alone.
 ghost use mathlib.Core.Path.{_≡_};
-ghost use Prim.Native.Nat.{ℕ, suc, _+_, _*_, _≤_, _<_};
+ghost use Prim.Native.Nat.{suc, _+_, _*_, _≤_, _<_};
 ghost use lib.ListN.{length};
 ghost use Rattle.lists.specs.Words.{linksOf, stepsOf, traceLength, recordLength};
 ghost use Rattle.lists.specs.Fits.{RowFits};

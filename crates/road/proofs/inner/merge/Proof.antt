@@ -3,7 +3,7 @@ use Prim.Native.Nat.{_+_, _≤_, _<_}
 use native.Mathlib.Omega.{arith}
 use borrow.Author.Needs.{needs}
 use Rattle.road.specs.Step.{through, merge}
-use Rattle.road.proofs.Rules.{flows-eq, passed-free, passed-tight}
+use Rattle.road.proofs.Rules.{passed-free, passed-tight}
 use Rattle.road.proofs.inner.merge.Statement.{statement}
 use Rattle.road.proofs.inner.merge.Tie as tie
 

@@ -1,6 +1,6 @@
 -- The rates from `low` to `high` are those left: the smallest that is high enough, or C, is among them.
-use Prim.Native.Nat.{ℕ, _-_}
-use mathlib.Core.Path.{_≡_, sym, _∙_}
+use Prim.Native.Nat.{_-_}
+use mathlib.Core.Path.{sym, _∙_}
 use native.Mathlib.Omega.{arith}
 use borrow.Author.Needs.{needs}
 use Rattle.tables.proofs.Least.{Bracket, bracket-begun, bracket-up-to, bracket-past, bracket-ended}

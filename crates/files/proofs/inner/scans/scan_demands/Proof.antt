@@ -1,6 +1,5 @@
 -- No step before k has a fault.
 use Prim.Native.Nat.{suc, _-_}
-use native.Mathlib.Omega.{arith}
 use borrow.Author.Needs.{needs}
 use Rattle.tables.specs.First.{firstNode}
 use Rattle.tables.proofs.First.{Passed}

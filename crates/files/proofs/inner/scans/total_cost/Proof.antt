@@ -1,6 +1,5 @@
 -- The sum of the states before k + 1, each at most the greatest sum of a row.
 use Prim.Native.Nat.{_-_}
-use native.Mathlib.Omega.{arith}
 use borrow.Author.Needs.{needs}
 use Rattle.tables.proofs.Sum.{Summed}
 use Rattle.tables.proofs.Sets.{sums}

@@ -1,7 +1,7 @@
 -- Each test picks the case of `_&&_`.
+use mathlib.Core.Bool.{and-true}
 use borrow.Author.Needs.{needs}
 use Rattle.tables.proofs.Sets.{tests}
-use Rattle.tables.proofs.Tests.{and-right}
 use Rattle.lists.proofs.Faults.{exit-covers}
 use Rattle.lists.specs.Refusals.{demandFault}
 use Rattle.lists.proofs.inner.faults.demand_fault.Statement.{statement}
@@ -13,7 +13,7 @@ returns-3 c = search (tests, exit-covers, ← c .exit-demand-fault .ensures)
 
 returns-4 : tie.Need-returns-4
 unfolding demandFault
-returns-4 c = search (tests, and-right, ← c .entry-demand-fault .ensures)
+returns-4 c = search (tests, and-true, ← c .entry-demand-fault .ensures)
 
 pub demand-fault-spec : {M : Type 1} → statement M
 unfolding demandFault

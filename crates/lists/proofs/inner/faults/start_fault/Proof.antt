@@ -1,5 +1,4 @@
 -- Each test picks the case of `_&&_`.
-use borrow.Author.Needs.{needs}
 use Rattle.tables.proofs.Sets.{tests}
 use Rattle.lists.specs.Refusals.{startFault}
 use Rattle.lists.proofs.inner.faults.start_fault.Statement.{statement}

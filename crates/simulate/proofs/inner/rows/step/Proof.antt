@@ -1,5 +1,4 @@
 -- The flows of the first row keep what the second asks.
-use native.Mathlib.Omega.{arith}
 use borrow.Author.Needs.{needs}
 use Rattle.simulate.proofs.Rows.{flow-moves}
 use Rattle.simulate.proofs.inner.rows.step.Statement.{statement}

@@ -1,6 +1,6 @@
 -- The state is state k, the total its cost so far, and the record has its first k rows.
 use Prim.Native.Nat.{_-_, _+_, _*_, _≤_}
-use mathlib.Core.Path.{_∙_, sym}
+use mathlib.Core.Path.{_∙_}
 use native.Mathlib.Omega.{arith}
 use lib.ListN.{take, drop}
 use Rattle.tables.proofs.Grid.{Rowed, rowed-begun}

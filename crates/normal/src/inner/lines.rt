@@ -1,0 +1,184 @@
+// The lines that the program prints, each put into a lent buffer of 128 bytes; the answer is the line's length.
+ghost use mathlib.Core.Path.{_≡_};
+ghost use mathlib.Core.List.{[], _∷_, _++_};
+ghost use Prim.Native.Nat.{_+_, _*_, _≤_, _<_};
+ghost use lib.ListN.{length, take};
+ghost use Rattle.io.specs.Counts.{Counts};
+ghost use Rattle.tables.specs.declared.Answer.the-variants.{Accepted};
+ghost use Rattle.lists.specs.Words.{nodeAt, roadOf, traceOf, demandsLength, recordLength};
+ghost use Rattle.convert.specs.Convert.{settingAt};
+ghost use Rattle.convert.specs.Refusals.{judged};
+ghost use Rattle.convert.specs.Rows.{Ready};
+ghost use Rattle.files.specs.Files.{corridorIn, demandsIn, recordIn};
+ghost use Rattle.files.specs.Fits.{Holds, FilesFit, Accepts};
+ghost use Rattle.normal.specs.Input.{linksIn, stepsIn, inputAnswer};
+ghost use Rattle.normal.specs.Fits.{statedCost};
+ghost use Rattle.normal.specs.Text.{decimal, spaced, planWord, refusedLine, headLine, settingLine, planLine};
+use crate::inner::input;
+use crate::inner::text;
+use lists::inner::scans;
+use lists::inner::words;
+use payload::inner::place;
+use settings::Setting;
+
+// A refusal.
+pub fn refused_line(number: u32, row: u32, node: u32, out: &mut [u8]) -> usize
+    requires { ⌜ length (now out) ≡ 128 ⌝ }
+    ensures { λ r. ⌜ take r (now (out .exit)) ≡ refusedLine number row node ⌝ }
+    ensures { λ r. ⌜ Counts r (now (out .exit)) ⌝ }
+{
+    let first = text::put_text(out, 0, b"REFUSED");
+    let second = text::put_spaced(out, first, number as u64);
+    let third = text::put_spaced(out, second, row as u64);
+    let last = text::put_spaced(out, third, node as u64);
+    text::put_byte(out, last, 10)
+}
+
+// The cost that a record states in its two last words.
+fn stated_cost(links: usize, steps: usize, words: &[u8]) -> u64
+    requires { ⌜ (links ≤ 64) × (steps ≤ 1440) × Holds (recordLength links steps) (now words) ⌝ }
+    ensures { λ r. ⌜ r ≡ statedCost links steps (now (words .entry)) ⌝ }
+{
+    let at = scans::table_length(steps + 1, (links + 1) * 4);
+    let low = place::word_of(words, at);
+    let high = place::word_of(words, at + 1);
+    (high as u64) * 4294967296 + (low as u64)
+}
+
+// Steps, nodes and cost after PLAN.
+fn put_head(steps: u64, nodes: u64, total: u64, out: &mut [u8]) -> usize
+    requires { ⌜ length (now out) ≡ 128 ⌝ }
+    ensures { λ r. ⌜ take r (now (out .exit)) ≡ planWord ++ (spaced steps ++ (spaced nodes ++ (spaced total ++ (10 ∷ [])))) ⌝ }
+    ensures { λ r. ⌜ Counts r (now (out .exit)) ⌝ }
+{
+    let first = text::put_text(out, 0, b"PLAN");
+    let second = text::put_spaced(out, first, steps);
+    let third = text::put_spaced(out, second, nodes);
+    let last = text::put_spaced(out, third, total);
+    text::put_byte(out, last, 10)
+}
+
+// The first line of an accepted input.
+pub fn head_line(input: &[u8], out: &mut [u8]) -> usize
+    requires { ⌜ inputAnswer (now input) ≡ Accepted ⌝ }
+    requires { ⌜ length (now out) ≡ 128 ⌝ }
+    ensures { λ r. ⌜ take r (now (out .exit)) ≡ headLine (now (input .entry)) ⌝ }
+    ensures { λ r. ⌜ Counts r (now (out .exit)) ⌝ }
+{
+    let at = input::layout_in(input);
+    let words = at.words;
+    let total = stated_cost(at.links as usize, at.steps as usize, &input[words..]);
+    put_head(at.steps as u64, at.links as u64 + 1, total, out)
+}
+
+// Step, identifier, rate, limit and the setting's letter.
+fn put_fields(
+    step: u64,
+    identifier: u32,
+    rate: u32,
+    limit: u32,
+    letter: u8,
+    out: &mut [u8],
+) -> usize
+    requires { ⌜ length (now out) ≡ 128 ⌝ }
+    ensures { λ r. ⌜ take r (now (out .exit)) ≡ decimal step ++ (spaced identifier ++ (spaced rate ++ (spaced limit ++ (32 ∷ letter ∷ 10 ∷ [])))) ⌝ }
+    ensures { λ r. ⌜ Counts r (now (out .exit)) ⌝ }
+{
+    let first = text::put_decimal(out, 0, step);
+    let second = text::put_spaced(out, first, identifier as u64);
+    let third = text::put_spaced(out, second, rate as u64);
+    let last = text::put_spaced(out, third, limit as u64);
+    text::put_text(out, last, &[32, letter, 10])
+}
+
+// The line of node i at a step, with its setting: F where it is full, H where it is held.
+fn node_line(corridor: &[u32], i: usize, step: u64, setting: Setting, out: &mut [u8]) -> usize
+    requires { ⌜ 1 + (i * 9 + 9) ≤ length (now corridor) ⌝ }
+    requires { ⌜ length (now out) ≡ 128 ⌝ }
+    ensures { λ r. ⌜ take r (now (out .exit)) ≡ settingLine step (nodeAt (now (corridor .entry)) i .identifier) (nodeAt (now (corridor .entry)) i .link .fullSpeed) setting ⌝ }
+    ensures { λ r. ⌜ Counts r (now (out .exit)) ⌝ }
+{
+    let identifier = words::identifier_at(corridor, i);
+    match setting {
+        Setting::Full(rate) => {
+            let link = words::link_at(corridor, i);
+            let full = link.full_speed;
+            put_fields(step, identifier, rate.0, full.0, 70, out)
+        }
+        Setting::Held(rate, limit) => put_fields(step, identifier, rate.0, limit.0, 72, out),
+    }
+}
+
+// The setting of node i at step k, its rows unpacked out of the files.
+fn setting_of(
+    corridor: &[u32],
+    demands: &[u8],
+    links: usize,
+    steps: usize,
+    words: &[u8],
+    k: usize,
+    i: usize,
+) -> Setting
+    requires { ⌜ Ready (now corridor) (demandsIn links steps (now demands)) (recordIn links steps (now words)) links steps ⌝ }
+    requires { ⌜ Holds (demandsLength links steps) (now demands) × Holds (recordLength links steps) (now words) ⌝ }
+    requires { ⌜ judged (roadOf (now corridor) (demandsIn links steps (now demands))) (recordIn links steps (now words)) ≡ Accepted ⌝ }
+    requires { ⌜ (k < steps) × (i ≤ links) ⌝ }
+    ensures { λ r. ⌜ r ≡ settingAt (roadOf (now (corridor .entry)) (demandsIn links steps (now (demands .entry)))) (traceOf (roadOf (now (corridor .entry)) (demandsIn links steps (now (demands .entry)))) (recordIn links steps (now (words .entry)))) k i ⌝ }
+{
+    let narrow = (links + 1) * 2;
+    let wide = (links + 1) * 4;
+    let mut demand_room = [0u32; 130];
+    let demand = &mut demand_room[..narrow];
+    place::unpack(demands, 1 + scans::row_at(k, narrow, steps), demand);
+    let mut room = [0u32; 260];
+    let row = &mut room[..wide];
+    place::unpack(words, scans::row_at(k, wide, steps + 1), row);
+    convert::inner::plans::setting_at(corridor, links, demand, row, i)
+}
+
+// The line of node i at step k, out of the files.
+fn files_line(
+    links: usize,
+    steps: usize,
+    corridor: &[u8],
+    demands: &[u8],
+    words: &[u8],
+    k: usize,
+    i: usize,
+    out: &mut [u8],
+) -> usize
+    requires { ⌜ FilesFit links steps (now corridor) (now demands) (now words) ⌝ }
+    requires { ⌜ Accepts links steps (now corridor) (now demands) (now words) ⌝ }
+    requires { ⌜ (k < steps) × (i ≤ links) × (length (now out) ≡ 128) ⌝ }
+    ensures { λ r. ⌜ take r (now (out .exit)) ≡ settingLine k (nodeAt (corridorIn links (now (corridor .entry))) i .identifier) (nodeAt (corridorIn links (now (corridor .entry))) i .link .fullSpeed) (settingAt (roadOf (corridorIn links (now (corridor .entry))) (demandsIn links steps (now (demands .entry)))) (traceOf (roadOf (corridorIn links (now (corridor .entry))) (demandsIn links steps (now (demands .entry)))) (recordIn links steps (now (words .entry)))) k i) ⌝ }
+    ensures { λ r. ⌜ Counts r (now (out .exit)) ⌝ }
+{
+    let count = 1 + (links + 1) * 9;
+    let mut room = [0u32; 586];
+    let list = &mut room[..count];
+    place::unpack(corridor, 0, list);
+    let setting = setting_of(list, demands, links, steps, words, k, i);
+    node_line(list, i, k as u64, setting, out)
+}
+
+// The line of node i at step k of an accepted input.
+pub fn plan_line(input: &[u8], k: usize, i: usize, out: &mut [u8]) -> usize
+    requires { ⌜ inputAnswer (now input) ≡ Accepted ⌝ }
+    requires { ⌜ (k < stepsIn (now input)) × (i ≤ linksIn (now input)) × (length (now out) ≡ 128) ⌝ }
+    ensures { λ r. ⌜ take r (now (out .exit)) ≡ planLine (now (input .entry)) k i ⌝ }
+    ensures { λ r. ⌜ Counts r (now (out .exit)) ⌝ }
+{
+    let at = input::layout_in(input);
+    let demands = at.demands;
+    let words = at.words;
+    files_line(
+        at.links as usize,
+        at.steps as usize,
+        &input[..demands],
+        &input[demands..words],
+        &input[words..],
+        k,
+        i,
+        out,
+    )
+}
