@@ -11,14 +11,14 @@ use borrow.Rule.Slice.PartMut.{putMid}
 use lib.Dec.{ltb, lit<}
 use lib.ListN.{length, getD, take, drop}
 use Rattle.tables.specs.Grid.{cell}
-use Rattle.tables.proofs.Grid.{cell-same, Placed, placed-begun, placed-four, placed-ended, Rowed, rowed-words, rowed-grid}
+use Rattle.tables.proofs.Grid.{rowWords-is, cell-same, Rowed, rowed-words, rowed-grid}
 use Rattle.tables.proofs.Part.{part-at}
 use Rattle.tables.proofs.Tabulate.{tabulate-length, tabulate-at, tabulate-past, filled-rest}
-use Rattle.payload.specs.Word.{byteOf, wordAt, putWord}
+use Rattle.payload.specs.Word.{Bytes, byteOf, wordAt, putWord}
 use Rattle.payload.specs.Block.{checkWord, bodyWord, blockWord, blockByte, blockOf}
-use Rattle.payload.specs.File.{blocksFor, payloadIn, payloadPlace, payloadWord, payloadOf, keptWord, fileOf}
-use Rattle.payload.proofs.Words.{word-same}
-use Rattle.payload.proofs.Checks.{check-fits, check-same, Checked, checked-begun, checked-more, checked-ended}
+use Rattle.payload.specs.File.{blocksFor, wordIn, payloadIn, payloadPlace, payloadWord, payloadOf, Cleared, keptWord, fileOf}
+use Rattle.payload.proofs.Words.{byte-word, word-same, put-word-length, word-put, word-other}
+use Rattle.payload.proofs.Checks.{check-fits, check-same}
 
 -- ---- the words of a block
 
@@ -39,31 +39,6 @@ unfolding bodyWord
 body-is kind number p f a b h zero l = a
 body-is kind number p f a b h (suc zero) l = b
 body-is kind number p f a b h (suc (suc i)) l = let e : suc (suc i) ≡ 2 + i = omega arith in ap f e ∙ h i (omega arith)
-
--- word j as the code picks it
-module _ (kind number left : ℕ) (block : List ℕ) (j : ℕ) where
-  pub body-kind : j ≡ 0 → kind ≡ bodyWord kind number (keptWord block left) j
-  unfolding bodyWord
-  body-kind e = rw e
-
-  pub body-number : j ≡ 1 → number ≡ bodyWord kind number (keptWord block left) j
-  unfolding bodyWord
-  body-number e = rw e
-
-  module _ (z : j ≢ 0) (o : j ≢ 1) where
-    past-two : bodyWord kind number (keptWord block left) j ≡ keptWord block left (j - 2)
-    unfolding bodyWord
-    past-two = let e : j ≡ suc (suc (j - 2)) = omega arith in ap (bodyWord kind number (keptWord block left)) e
-
-    pub body-kept : j - 2 < left → (w : ℕ) → w ≡ wordAt block j → w ≡ bodyWord kind number (keptWord block left) j
-    unfolding keptWord
-    body-kept h w e =
-        let t : 2 + (j - 2) ≡ j = omega arith in
-        e ∙ ap (wordAt block) (sym t) ∙ sym (past-two ∙ rw (lt-ltb (j - 2) left h))
-
-    pub body-past : left ≤ j - 2 → 0 ≡ bodyWord kind number (keptWord block left) j
-    unfolding keptWord
-    body-past h = sym (past-two ∙ rw (le-ltb (j - 2) left h))
 
 module _ (kind number : ℕ) (p : ℕ → ℕ) where
   pub block-body : (j : ℕ) → j < 127 → blockWord kind number p j ≡ bodyWord kind number p j
@@ -108,56 +83,95 @@ block-same kind number p q h j l =
       | no b ↦ rw (le-ltb j 127 (omega arith)) (check-same (bodyWord kind number p) (bodyWord kind number q) body)
     ]
 
--- ---- as a loop's invariant: j words of a block are written, and `check` is their check word so far
+-- ---- as a loop's invariant: payload words left to i - 1 of a block are zeros
 
-pub record Sealed (j kind number left : ℕ) (d l : List ℕ) (check : ℕ) : Type 0 where
-  pub bytes : Placed 4 j 128 (blockByte kind number (keptWord d left)) d l
-  pub sum : Checked j (bodyWord kind number (keptWord d left)) check
+pub record Clearing (i left : ℕ) (d l : List ℕ) : Type 0 where
+  pub from : left ≤ i
+  pub same : length l ≡ length d
+  pub zeros : (k : ℕ) → left ≤ k → k < i → wordAt l (2 + k) ≡ 0
+  pub others : (j : ℕ) → j < 2 + left → wordAt l j ≡ wordAt d j
 
-pub sealed-begun : (kind number left : ℕ) (d : List ℕ) → length d ≡ 512 → Sealed 0 kind number left d d 0
-sealed-begun kind number left d e =
-    record { bytes = placed-begun 4 128 (blockByte kind number (keptWord d left)) d (omega arith); sum = checked-begun (bodyWord kind number (keptWord d left)) }
+pub clearing-begun : (left : ℕ) (d : List ℕ) → Clearing left left d d
+clearing-begun left d = record { from = omega arith; same = refl; zeros = λ k a b. absurd (omega arith); others = λ j h. refl }
 
--- word j is the word w that is put
-placed-word : (j : ℕ) (word : ℕ → ℕ) (d l l′ : List ℕ) (w : ℕ) → Placed 4 j 128 (λ i. byteOf (word i)) d l → j < 128 → w ≡ word j → l′ ≡ putWord l j w
-    → Placed 4 (j + 1) 128 (λ i. byteOf (word i)) d l′
-unfolding putWord
-placed-word j word d l l′ w a h e p =
-    let b : (q : ℕ) → byteOf w q ≡ byteOf (word j) q = λ q. ap (λ (v : ℕ). byteOf v q) e in
-    subst (λ (r : List ℕ). Placed 4 (j + 1) 128 (λ i. byteOf (word i)) d r) (sym p)
-    (placed-four j 128 (λ i. byteOf (word i)) d l (j * 4) _ _ _ _ a h refl (b 0) (b 1) (b 2) (b 3))
-
--- a word that is not written yet
-kept-same : (j kind number left : ℕ) (d l : List ℕ) (check : ℕ) → Sealed j kind number left d l check
-    → bodyWord kind number (keptWord l left) j ≡ bodyWord kind number (keptWord d left) j
-unfolding keptWord
-kept-same j kind number left d l check a =
-    body-same kind number (keptWord l left) (keptWord d left) j
-    (λ i e. ap (λ (w : ℕ). cond (ltb i left) w 0)
-    (word-same l d (2 + i) (2 + i) (λ q b. filled-rest (j * 4) (cell 4 (blockByte kind number (keptWord d left))) d l _ (a .bytes .is) (omega arith))))
-
--- w, v and l′ are the word, the check word and the block as calls gave them
-pub sealed-more : (j kind number left : ℕ) (d l l′ : List ℕ) (check w v : ℕ) → Sealed j kind number left d l check → j < 127
-    → w ≡ bodyWord kind number (keptWord l left) j → l′ ≡ putWord l j w → v ≡ (check + (2 * j + 1) * w) % 4294967296
-    → Sealed (j + 1) kind number left d l′ v
-sealed-more j kind number left d l l′ check w v a h e p q =
-    let kept = keptWord d left in
-    let u : w ≡ bodyWord kind number kept j = e ∙ kept-same j kind number left d l check a in
+pub clearing-more : (i left : ℕ) (d l l′ : List ℕ) → Clearing i left d l → i < 125 → length d ≡ 512 → l′ ≡ putWord l (2 + i) 0 → Clearing (i + 1) left d l′
+clearing-more i left d l l′ a h n e =
     record {
-      bytes = placed-word j (blockWord kind number kept) d l l′ w (a .bytes) (omega arith) (u ∙ sym (block-body kind number kept j h)) p;
-      sum = checked-more j (bodyWord kind number kept) check w v (a .sum) h u q;
+      from = omega (arith, a .from);
+      same = ap length e ∙ put-word-length l (2 + i) 0 ∙ a .same;
+      zeros = λ k b c.
+          elim (decLt k i) [
+            | yes s ↦ ap (λ (x : List ℕ). wordAt x (2 + k)) e ∙ word-other l (2 + i) 0 (2 + k) (λ t. omega arith) ∙ a .zeros k b s
+            | no s ↦
+                let t : k ≡ i = omega arith in
+                ap (λ (x : List ℕ). wordAt x (2 + k)) e ∙ ap (λ (q : ℕ). wordAt (putWord l (2 + i) 0) (2 + q)) t ∙ word-put l (2 + i) 0 (omega (arith, a .same)) (lit< tt)
+          ];
+      others = λ j b. ap (λ (x : List ℕ). wordAt x j) e ∙ word-other l (2 + i) 0 j (λ t. omega (arith, a .from)) ∙ a .others j b;
     }
 
-pub sealed-ended : (j kind number left : ℕ) (d l l′ : List ℕ) (check : ℕ) → Sealed j kind number left d l check → 127 ≤ j → l′ ≡ putWord l 127 check
-    → l′ ≡ blockOf kind number (keptWord d left)
-unfolding blockOf
-sealed-ended j kind number left d l l′ check a h p =
-    let kept = keptWord d left in
-    let e : j ≡ 127 = omega (arith, a .sum .bound) in
-    let b : Placed 4 127 128 (blockByte kind number kept) d l = subst (λ (k : ℕ). Placed 4 k 128 (blockByte kind number kept) d l) e (a .bytes) in
-    placed-ended 4 (127 + 1) 128 (blockByte kind number kept) d l′
-    (placed-word 127 (blockWord kind number kept) d l l′ check b (lit< tt) (checked-ended j _ check (a .sum) h ∙ sym (block-check kind number kept)) p)
-    (omega arith)
+pub clearing-ended : (i left : ℕ) (d l : List ℕ) → Clearing i left d l → 125 ≤ i → Cleared d left l
+unfolding keptWord
+clearing-ended i left d l a h =
+    record {
+      same = a .same;
+      head = λ j b. a .others j (omega arith);
+      payload = λ k b.
+          elim (decLt k left) [
+            | yes s ↦ a .others (2 + k) (omega arith) ∙ sym (rw (lt-ltb k left s) refl)
+            | no s ↦ a .zeros k (omega arith) (omega arith) ∙ sym (rw (le-ltb k left (omega arith)) refl)
+          ];
+    }
+
+-- ---- a sealed block: a, b, c and l are the block as each call left it
+
+module _ (kind number left : ℕ) (d a b c l : List ℕ) (n : length d ≡ 512) (p : a ≡ putWord d 0 kind) (q : b ≡ putWord a 1 number) (r : Cleared b left c) where
+  a-length : length a ≡ 512
+  a-length = ap length p ∙ put-word-length d 0 kind ∙ n
+
+  b-length : length b ≡ 512
+  b-length = ap length q ∙ put-word-length a 1 number ∙ a-length
+
+  pub cleared-length : length c ≡ 512
+  cleared-length = r .same ∙ b-length
+
+  kept : (i : ℕ) → keptWord b left i ≡ keptWord d left i
+  unfolding keptWord
+  kept i =
+      ap (λ (w : ℕ). cond (ltb i left) w 0)
+      (ap (λ (x : List ℕ). wordAt x (2 + i)) q ∙ word-other a 1 number (2 + i) (λ t. omega arith) ∙ ap (λ (x : List ℕ). wordAt x (2 + i)) p ∙ word-other d 0 kind (2 + i) (λ t. omega arith))
+
+  pub sealed : (check : ℕ) → check ≡ checkWord (wordIn c 0) → l ≡ putWord c 127 check → Bytes l → kind < 4294967296 → number < 4294967296
+      → l ≡ blockOf kind number (keptWord d left)
+  unfolding blockOf
+  sealed check e s bytes hk hn =
+      rowWords-is 4 128 (blockByte kind number (keptWord d left)) l (ap length s ∙ put-word-length c 127 check ∙ cleared-length)
+      (λ i k h g. sym (byte-word l i k bytes g) ∙ ap (λ (w : ℕ). byteOf w k) (block-is kind number (keptWord d left) (wordAt l) body checked i h))
+    where
+      -- the words before the check word are those of c
+      before : (j : ℕ) → j < 127 → wordAt l j ≡ wordAt c j
+      before j h = ap (λ (x : List ℕ). wordAt x j) s ∙ word-other c 127 check j (λ t. omega arith)
+
+      body : (j : ℕ) → j < 127 → wordAt l j ≡ bodyWord kind number (keptWord d left) j
+      body =
+          body-is kind number (keptWord d left) (wordAt l)
+          (before 0 (lit< tt)
+          ∙ r .head 0 (lit< tt)
+          ∙ ap (λ (x : List ℕ). wordAt x 0) q
+          ∙ word-other a 1 number 0 (λ t. omega arith)
+          ∙ ap (λ (x : List ℕ). wordAt x 0) p
+          ∙ word-put d 0 kind (omega arith) hk)
+          (before 1 (lit< tt)
+          ∙ r .head 1 (lit< tt)
+          ∙ ap (λ (x : List ℕ). wordAt x 1) q
+          ∙ word-put a 1 number (omega (arith, a-length)) hn)
+          (λ i h. before (2 + i) (omega arith) ∙ r .payload i h ∙ kept i)
+
+      checked : wordAt l 127 ≡ checkWord (wordAt l)
+      checked =
+          ap (λ (x : List ℕ). wordAt x 127) s
+          ∙ word-put c 127 check (omega (arith, cleared-length)) (subst (λ (x : ℕ). x < 4294967296) (sym e) (check-fits (wordIn c 0)))
+          ∙ e
+          ∙ check-same (wordIn c 0) (wordAt l) (λ j h. let t : 0 * 128 + j ≡ j = omega arith in ap (wordAt c) t ∙ sym (before j h))
 
 -- ---- as a loop's invariant: t blocks of a file are sealed
 

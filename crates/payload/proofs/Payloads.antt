@@ -1,8 +1,8 @@
 -- Laws of payload words that are put in place: the loop that puts them, and the payload once they are put.
 use mathlib.Core.List.{List}
 use mathlib.Core.Logic.{_≢_}
-use mathlib.Core.Path.{_≡_, refl, sym, ap, _∙_, subst}
-use Prim.Native.Nat.{ℕ, zero, suc, _+_, _-_, _*_, _≤_, _<_}
+use mathlib.Core.Path.{_≡_, refl, sym, ap, ap₂, _∙_, subst}
+use Prim.Native.Nat.{ℕ, zero, suc, _+_, _-_, _*_, _/_, _%_, _≤_, _<_}
 use native.Mathlib.Decide.{decLt}
 use native.Mathlib.Nat.{zero-add}
 use native.Mathlib.Numerals.{add-one}
@@ -11,8 +11,9 @@ use borrow.Rule.Slice.PartMut.{putMid}
 use lib.ListN.{length, getD, take, drop}
 use Rattle.tables.proofs.Grid.{Rowed, rowed-lent}
 use Rattle.tables.proofs.Numbers.{row-fits}
-use Rattle.tables.proofs.Part.{put-length, put-before, put-within, put-after}
-use Rattle.tables.proofs.Tabulate.{tabulate-length, tabulate-at, tabulate-is, tabulate-same, tabulate-part}
+use Rattle.tables.specs.Tabulate.{tabulate}
+use Rattle.tables.proofs.Part.{part-length, part-at, put-length, put-before, put-within, put-after}
+use Rattle.tables.proofs.Tabulate.{tabulate-length, tabulate-at, tabulate-is, tabulate-same, tabulate-part, Filled, filled-lent}
 use Rattle.payload.specs.Word.{Words, wordAt, putWord}
 use Rattle.payload.specs.File.{blocksFor, payloadPlace, payloadWord, payloadPart, payloadOf, putFirst, putPayload, fileOf}
 use Rattle.payload.proofs.Words.{put-word-length, word-put, word-other}
@@ -46,12 +47,60 @@ put-ended i d from words l a h =
     let e : i ≡ length words = omega arith in
     a .is ∙ ap (λ (k : ℕ). putFirst k d from words) e
 
--- ---- the payload once words are put
-
 put-first-length : (n : ℕ) (d : List ℕ) (from : ℕ) (words : List ℕ) → length (putFirst n d from words) ≡ length d
 unfolding putFirst
 put-first-length zero d from words = refl
 put-first-length (suc n) d from words = put-word-length _ _ _ ∙ put-first-length n d from words
+
+-- the next n words are put as one run
+put-split : (n : ℕ) (d : List ℕ) (from i m : ℕ) (words : List ℕ) → n ≤ m
+    → putFirst (i + n) d from words ≡ putFirst n (putFirst i d from words) (from + i) (take (i + m - i) (drop i words))
+unfolding putFirst
+put-split zero d from i m words h = let e : i + 0 ≡ i = omega arith in ap (λ (k : ℕ). putFirst k d from words) e
+put-split (suc n) d from i m words h =
+    let e : i + suc n ≡ suc (i + n) = omega arith in
+    let p : payloadPlace (from + (i + n)) ≡ payloadPlace (from + i + n) = omega arith in
+    ap (λ (k : ℕ). putFirst k d from words) e
+    ∙ ap (λ (x : List ℕ). putWord x (payloadPlace (from + (i + n))) (getD words (i + n) 0)) (put-split n d from i m words (omega arith))
+    ∙ ap₂ (λ (k w : ℕ). putWord (putFirst n (putFirst i d from words) (from + i) (take (i + m - i) (drop i words))) k w) p (sym (part-at i m words n 0 (omega arith)))
+
+pub put-runs : (i n : ℕ) (d : List ℕ) (from : ℕ) (words l l′ : List ℕ) → Put i d from words l → i + n ≤ length words
+    → l′ ≡ putPayload l (from + i) (take (i + n - i) (drop i words)) → Put (i + n) d from words l′
+put-runs i n d from words l l′ a h e =
+    let count : length (take (i + n - i) (drop i words)) ≡ n = part-length i n (length words) words h refl in
+    let is : l′ ≡ putFirst (i + n) d from words =
+    e
+    ∙ ap (λ (k : ℕ). putFirst k l (from + i) (take (i + n - i) (drop i words))) count
+    ∙ ap (λ (x : List ℕ). putFirst n x (from + i) (take (i + n - i) (drop i words))) (a .is)
+    ∙ sym (put-split n d from i n words (omega arith)) in
+    record { bound = h; same = ap length is ∙ put-first-length (i + n) d from words; is = is }
+
+-- word q of a run in one block
+pub run-more : (q j first : ℕ) (d words l l′ : List ℕ) → Put q d j words l → q < length words → j % 125 + length words ≤ 125 → first ≡ payloadPlace j
+    → l′ ≡ putWord l (first + q) (getD words q 0) → Put (q + 1) d j words l′
+run-more q j first d words l l′ a h r f e =
+    let p : first + q ≡ payloadPlace (j + q) = omega arith in
+    put-more q d j words l l′ a h (e ∙ ap (λ (k : ℕ). putWord l k (getD words q 0)) p)
+
+-- a run of n words lies within a file that holds m of them past `from`
+pub run-fits : (from i n m first count room : ℕ) → blocksFor (from + m) * 512 ≤ room → 1 ≤ n → i + n ≤ m → (from + i) % 125 + n ≤ 125 → first ≡ payloadPlace (from + i) → count ≡ n
+    → (first + count) * 4 ≤ room
+run-fits from i n m first count room f l h r e c =
+    let block : (from + i) / 125 < blocksFor (from + m) = omega arith in
+    omega arith
+
+-- the next n words are unpacked as one run
+pub unpack-more : (i n from first count : ℕ) (file d l ys : List ℕ) → Filled i (λ j. payloadWord file (from + j)) d l → ys ≡ tabulate count (λ q. wordAt file (first + q))
+    → i + n ≤ length l → (from + i) % 125 + n ≤ 125 → first ≡ payloadPlace (from + i) → count ≡ n
+    → Filled (i + n) (λ j. payloadWord file (from + j)) d (putMid i (i + n - i) l ys)
+unfolding payloadWord
+unpack-more i n from first count file d l ys a e h r f c =
+    filled-lent i n (λ j. payloadWord file (from + j)) d l ys a h (ap length e ∙ tabulate-length count _ ∙ c)
+    (λ q b.
+    let p : first + q ≡ payloadPlace (from + (i + q)) = omega arith in
+    ap (λ (x : List ℕ). getD x q 0) e ∙ tabulate-at count (λ q. wordAt file (first + q)) q 0 (omega arith) ∙ ap (wordAt file) p)
+
+-- ---- the payload once words are put
 
 put-first-other : (n : ℕ) (d : List ℕ) (from : ℕ) (words : List ℕ) (j : ℕ) → ((i : ℕ) → i < n → j ≢ from + i)
     → payloadWord (putFirst n d from words) j ≡ payloadWord d j

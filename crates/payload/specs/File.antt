@@ -3,7 +3,7 @@ use mathlib.Core.Bool.{cond}
 use mathlib.Core.List.{List}
 use mathlib.Core.Logic.{_≢_}
 use mathlib.Core.Path.{_≡_}
-use Prim.Native.Nat.{ℕ, zero, suc, _+_, _*_, _/_, _%_}
+use Prim.Native.Nat.{ℕ, zero, suc, _+_, _*_, _/_, _%_, _<_}
 use lib.Dec.{ltb}
 use lib.ListN.{length, getD}
 use Rattle.tables.specs.Grid.{grid}
@@ -59,6 +59,12 @@ putPayload file from words = putFirst (length words) file from words
 -- the payload words that a block's 512 bytes hold, zeros from word `left` on
 unfoldable pub keptWord : List ℕ → ℕ → ℕ → ℕ
 keptWord block left i = cond (ltb i left) (wordAt block (2 + i)) 0
+
+-- `after` is a block with the same words, but zeros as payload words `left` and on
+pub record Cleared (before : List ℕ) (left : ℕ) (after : List ℕ) : Type 0 where
+  pub same : length after ≡ length before
+  pub head : (j : ℕ) → j < 2 → wordAt after j ≡ wordAt before j
+  pub payload : (i : ℕ) → i < 125 → wordAt after (2 + i) ≡ keptWord before left i
 
 -- ---- a change
 

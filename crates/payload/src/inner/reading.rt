@@ -11,7 +11,7 @@ use crate::inner::words;
 use tables::Answer;
 
 // The check word so far, with word j, modulo 2 ^ 32.
-pub fn added(check: u32, j: usize, word: u32) -> u32
+fn added(check: u32, j: usize, word: u32) -> u32
     requires { ⌜ j < 127 ⌝ }
     ensures { λ r. ⌜ r ≡ (check + (2 * j + 1) * word) % 4294967296 ⌝ }
 {
@@ -19,7 +19,7 @@ pub fn added(check: u32, j: usize, word: u32) -> u32
 }
 
 // The check word of block t, from its words 0 to 126.
-fn check_word(file: &[u8], t: usize) -> u32
+pub fn check_word(file: &[u8], t: usize) -> u32
     requires { ⌜ t * 512 + 512 ≤ length (now file) ⌝ }
     ensures { λ r. ⌜ r ≡ checkWord (wordIn (now (file .entry)) t) ⌝ }
 {

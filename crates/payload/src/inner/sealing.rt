@@ -1,27 +1,22 @@
 // Sealing: the payload's words stand in the file, and each block gets its kind, its number, its padding and its check word.
 ghost use mathlib.Core.Path.{_≡_};
-ghost use Prim.Native.Nat.{_+_, _-_, _*_, _≤_, _<_};
+ghost use Prim.Native.Nat.{_*_, _≤_};
 ghost use lib.ListN.{length};
-ghost use Rattle.payload.specs.Block.{bodyWord, blockOf};
-ghost use Rattle.payload.specs.File.{blocksFor, keptWord, payloadOf, fileOf};
+ghost use Rattle.payload.specs.Block.{blockOf};
+ghost use Rattle.payload.specs.File.{blocksFor, Cleared, keptWord, payloadOf, fileOf};
 use crate::inner::reading;
 use crate::inner::words;
 
-// Word j, below 127, of a block whose first `left` payload words stand.
-fn body_word(kind: u32, number: u32, left: usize, block: &[u8], j: usize) -> u32
-    requires { ⌜ (length (now block) ≡ 512) × (j < 127) ⌝ }
-    ensures { λ r. ⌜ r ≡ bodyWord kind number (keptWord (now (block .entry)) left) j ⌝ }
+// The padding: zeros from payload word `left` of a block on.
+fn clear(block: &mut [u8], left: usize)
+    requires { ⌜ length (now block) ≡ 512 ⌝ }
+    ensures { λ _. ⌜ Cleared (now (block .entry)) left (now (block .exit)) ⌝ }
 {
-    if j == 0 {
-        return kind;
+    let mut i = left;
+    while i < 125 {
+        words::put_word(block, 2 + i, 0);
+        i += 1;
     }
-    if j == 1 {
-        return number;
-    }
-    if j - 2 < left {
-        return words::word_at(block, j);
-    }
-    0
 }
 
 // One block, whose first `left` payload words stand.
@@ -29,14 +24,10 @@ fn seal_block(kind: u32, number: u32, left: usize, block: &mut [u8])
     requires { ⌜ length (now block) ≡ 512 ⌝ }
     ensures { λ _. ⌜ now (block .exit) ≡ blockOf kind number (keptWord (now (block .entry)) left) ⌝ }
 {
-    let mut check: u32 = 0;
-    let mut j: usize = 0;
-    while j < 127 {
-        let word = body_word(kind, number, left, block, j);
-        words::put_word(block, j, word);
-        check = reading::added(check, j, word);
-        j += 1;
-    }
+    words::put_word(block, 0, kind);
+    words::put_word(block, 1, number);
+    clear(block, left);
+    let check = reading::check_word(block, 0);
     words::put_word(block, 127, check);
 }
 

@@ -1,28 +1,28 @@
--- A loop that writes a word at a time and adds up the check word.
+-- The words of the block, call by call.
+use native.Mathlib.Omega.{arith}
 use borrow.Author.Needs.{needs}
-use Prim.Native.Nat.{_-_}
-use Rattle.payload.proofs.Blocks.{Sealed, sealed-begun, sealed-more, sealed-ended}
+use Rattle.payload.proofs.Blocks.{sealed}
 use Rattle.payload.proofs.inner.sealing.seal_block.Statement.{statement}
 use Rattle.payload.proofs.inner.sealing.seal_block.Tie as tie
 
-abbrev Inv-loop : tie.InvT-loop
-Inv-loop kind number left block₀ check₀ j₀ block check j = Sealed j kind number left block₀ block check
-
-abbrev μ-loop : tie.MeasureT-loop
-μ-loop kind number left block₀ check₀ j₀ block check j = 127 - j
-
-loop-holds : tie.Need-loop-holds Inv-loop μ-loop
-loop-holds c = search sealed-begun
-
-loop-again : tie.Need-loop-again Inv-loop μ-loop
-loop-again c = search sealed-more
-
-returns : tie.Need-returns Inv-loop μ-loop
-returns c = search sealed-ended
+returns : tie.Need-returns
+returns c =
+    let put = c .before .before in
+    let check = put .before .before in
+    let cleared = check .before .before .before .before in
+    let second = cleared .before .before .before .before in
+    let first = second .before .before .before .before in
+    sealed _ _ _ _ _ _ _ _ (first .before .before .before .pre) (first .put-word .ensures) (second .put-word2 .ensures) (cleared .clear .ensures) _ (check .check-word .ensures) (put .put-word3 .ensures)
+    (λ i. omega (arith, c .slice-known5 .given i)) (search needs) (search needs)
 
 pub seal-block-spec : {M : Type 1} → statement M
 seal-block-spec =
     tie.close
     (tie.spec
-    Inv-loop μ-loop loop-holds (λ c κs. search needs) (λ c κs. search needs) (λ c κs. search needs)
-    (λ c. search needs) (λ c. search needs) loop-again (λ c κs. search needs) (λ c. search needs) returns)
+    (λ c κs. search needs)
+    (λ c κs. search needs)
+    (λ c κs. search needs)
+    (λ c κs. search needs)
+    (λ c κs. search needs)
+    (λ c. search needs)
+    returns)
