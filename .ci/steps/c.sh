@@ -12,6 +12,8 @@ if command -v g++ > /dev/null; then
     printf '#include "gigorchid.h"\nint main() { return gigorchid_refusal_text(0) == nullptr; }\n' > "$work/header.cc"
     g++ -std=c++11 "${strict[@]}" "$work/header.cc" -o "$work/header"
     "$work/header"
+else
+    echo "g++ is not installed: the header is not tried from C++"
 fi
 library=target/staticlib/libhost.a
 checks=(-g -fsanitize=address,undefined -fno-sanitize-recover=all)
@@ -40,6 +42,8 @@ if command -v valgrind > /dev/null; then
     valgrind --quiet --error-exitcode=9 "$work/calls"
     run 0 case1 valgrind --quiet --error-exitcode=9 "$work/host"
     run 1 case5 valgrind --quiet --error-exitcode=9 "$work/host"
+else
+    echo "valgrind is not installed: the examples are not run under it"
 fi
 
 # refused TEXT N K CORRIDOR DEMANDS RECORD: the host says so
