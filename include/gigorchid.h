@@ -6,8 +6,9 @@
  * count is 0, fits the element's type, and stays valid through the call; a slice that is written overlaps no other. Nothing else is asked: any
  * words, any bytes, any counts may be given, and each call answers.
  *
- * The answer is one number: 0 for accepted, else row x 65,536 + node x 256 + refusal number. A refusal leaves what is lent as it was, but for
- * one: a normal form refused by 12 has its work record filled.
+ * The answer is one number: 0 for accepted, else row x 65,536 + node x 256 + refusal number. The row is the step of 5, 6 and 8 to 12, the
+ * state of 7, the block of 15 to 18; the node is that of 2 to 12; each is 0 elsewhere. A refusal leaves what is lent as it was, but for one: a
+ * normal form refused by 12 has its work record filled.
  *
  * The calls keep nothing between them, allocate nothing and need less than 64 KiB of stack. Several threads may call at once, as long as
  * no slice that one writes is used by another.
@@ -22,7 +23,15 @@
 extern "C" {
 #endif
 
-/* How long the lists are, in words, for N links (1 to 64) and K steps (1 to 1,440), and how many bytes a file of so many words has. */
+/* How long the lists are, in words, for N links (1 to 64) and K steps (1 to 1,440), and how many bytes a file of so many words has. No other
+ * length is taken. The longest lists, for 64 links and 1,440 steps:
+ *
+ *              words     bytes of its file
+ *     corridor     586       2,560
+ *     demands  187,201     766,976
+ *     plan     187,200     766,976
+ *     record   374,662   1,534,976
+ */
 #define GIGORCHID_CORRIDOR_WORDS(n) (1 + ((size_t)(n) + 1) * 9)
 #define GIGORCHID_DEMANDS_WORDS(n, k) (1 + (size_t)(k) * ((size_t)(n) + 1) * 2)
 #define GIGORCHID_PLAN_WORDS(n, k) ((size_t)(k) * ((size_t)(n) + 1) * 2)

@@ -31,10 +31,6 @@ module _ (corridor demand row : List ℕ) (links : ℕ) (kept : (j : ℕ) → j 
 
   -- the junction as the code has it keeps what a fault, and what a setting, asks
   module _ (i : ℕ) (h : i ≤ links) (a : junctions.Junction) (e : junctionOf a ≡ junction (stepRoad corridor demand) 0 (stateIn row) i) where
-    abbrev state-is : stateOf (a .state) ≡ stateIn row i
-    unfolding junction
-    state-is = ap (λ (x : Junction). x .state) e
-
     pub split-kept : a .split .0 ≤ 65536
     unfolding junction stepRoad
     split-kept = omega (arith, kept i h .split, ap (λ (x : Junction). x .split) e)

@@ -8,18 +8,19 @@ use lib.ListN.{length, take, drop}
 use Rattle.tables.proofs.Grid.{rowWords-length}
 use Rattle.tables.proofs.Numbers.{row-fits}
 use Rattle.tables.proofs.Tabulate.{tabulate-length}
-use Rattle.lists.specs.Words.{planLength, demandsLength, recordLength, corridorLength}
+use Rattle.lists.specs.Words.{planLength, corridorLength}
 use Rattle.convert.specs.Convert.{converted}
 use Rattle.convert.specs.Rows.{planRow, settingWord, Ready}
 use Rattle.convert.proofs.Settings.{PlanRows, plan-begun, plan-more, plan-ended}
 use Rattle.payload.specs.File.{blocksFor, payloadWord, payloadOf, payloadPart, putPayload, fileOf}
 use Rattle.payload.specs.Word.{Words}
-use Rattle.payload.proofs.Payloads.{payload-part, payload-put, put-length-same}
+use Rattle.payload.proofs.Payloads.{payload-put, put-length-same}
 use Rattle.block.specs.declared.Kind.the-variants.{Plan}
 use Rattle.block.specs.Kinds.{Told, kindNumber, listLength}
 use Rattle.block.proofs.Calls.{length-high}
 use Rattle.files.specs.Files.{demandsIn, recordIn, planFile}
-use Rattle.files.specs.Fits.{Holds, FilesFit, planRowIn}
+use Rattle.files.specs.Fits.{Holds, FilesFit, demandRowIn, stateRowIn, planRowIn}
+use Rattle.files.proofs.Rows.{demand-part, state-part}
 use Rattle.files.proofs.Contents.{corridor-read}
 
 -- ---- as a loop's invariant: the first k rows stand in the file
@@ -39,9 +40,7 @@ row-read : (corridor demands words : List ℕ) (links steps k : ℕ) → k < ste
     (take (1 + k * ((links + 1) * 2) + (links + 1) * 2 - (1 + k * ((links + 1) * 2))) (drop (1 + k * ((links + 1) * 2)) (demandsIn links steps demands)))
     (take (k * ((links + 1) * 4) + (links + 1) * 4 - k * ((links + 1) * 4)) (drop (k * ((links + 1) * 4)) (recordIn links steps words)))
 row-read corridor demands words links steps k h =
-    ap₂ (planRow corridor links)
-    (payload-part (1 + k * ((links + 1) * 2)) ((links + 1) * 2) (demandsLength links steps) demands (omega (arith, row-fits k steps ((links + 1) * 2) h)))
-    (payload-part (k * ((links + 1) * 4)) ((links + 1) * 4) (recordLength links steps) words (omega (arith, row-fits k steps ((links + 1) * 4) h)))
+    ap₂ (planRow corridor links) (demand-part links steps k demands _ refl h) (state-part links steps k words _ refl (omega arith))
 
 row-count : (corridor demand row : List ℕ) (links : ℕ) → length (planRow corridor links demand row) ≡ (links + 1) * 2
 unfolding planRow
@@ -57,17 +56,12 @@ put-fits links steps at room corridor demand row out e f h =
     let n : length out ≡ (links + 1) * 2 = ap length e ∙ row-count corridor demand row links in
     omega arith
 
--- r and at are where the two rows start, and count and wide their words
-pub put-told : (links k r at count wide : ℕ) (corridor demands words demand row out : List ℕ) (lent : List ℕ) {file : List ℕ} → out ≡ planRow corridor links demand row
-    → demand ≡ payloadPart (1 + r) count demands → count ≡ (links + 1) * 2 → row ≡ payloadPart at wide words → wide ≡ (links + 1) * 4
-    → r ≡ k * ((links + 1) * 2) → at ≡ k * ((links + 1) * 4) → (file ≡ putPayload lent r out) × Words out
+-- r is where it starts
+pub put-told : (links k r : ℕ) (corridor demands words demand row out : List ℕ) (lent : List ℕ) {file : List ℕ} → out ≡ planRow corridor links demand row
+    → demand ≡ demandRowIn links demands k → row ≡ stateRowIn links words k → r ≡ k * ((links + 1) * 2) → (file ≡ putPayload lent r out) × Words out
     → (file ≡ putPayload lent (k * ((links + 1) * 2)) (planRowIn corridor links demands words k)) × Words (planRowIn corridor links demands words k)
-put-told links k r at count wide corridor demands words demand row out lent o d p w q e f told =
-    let is : out ≡ planRowIn corridor links demands words k =
-    o
-    ∙ ap₂ (planRow corridor links)
-    (d ∙ ap₂ (λ (x y : ℕ). payloadPart (1 + x) y demands) e p)
-    (w ∙ ap₂ (λ (x y : ℕ). payloadPart x y words) f q) in
+put-told links k r corridor demands words demand row out lent o d w e told =
+    let is : out ≡ planRowIn corridor links demands words k = o ∙ ap₂ (planRow corridor links) d w in
     (told .0 ∙ ap₂ (putPayload lent) e is, subst Words is (told .1))
 
 module _ (corridor demands words : List ℕ) (links steps : ℕ) (ready : Ready corridor (demandsIn links steps demands) (recordIn links steps words) links steps) where

@@ -30,7 +30,13 @@ pub record Accepts (links steps : ℕ) (corridor demands words : List ℕ) : Typ
   pub ranged : ranges (roadOf (corridorIn links corridor) (demandsIn links steps demands)) ≡ Accepted
   pub judges : judged (roadOf (corridorIn links corridor) (demandsIn links steps demands)) (recordIn links steps words) ≡ Accepted
 
--- the plan's row of step k, out of the files
+-- the row of step k out of the demands' file, and that of state k out of a record's
+abbrev pub demandRowIn : ℕ → List ℕ → ℕ → List ℕ
+demandRowIn links file k = payloadPart (1 + k * ((links + 1) * 2)) ((links + 1) * 2) file
+
+abbrev pub stateRowIn : ℕ → List ℕ → ℕ → List ℕ
+stateRowIn links file k = payloadPart (k * ((links + 1) * 4)) ((links + 1) * 4) file
+
+-- the plan's row of step k
 abbrev pub planRowIn : List ℕ → ℕ → List ℕ → List ℕ → ℕ → List ℕ
-planRowIn corridor links demands words k =
-    planRow corridor links (payloadPart (1 + k * ((links + 1) * 2)) ((links + 1) * 2) demands) (payloadPart (k * ((links + 1) * 4)) ((links + 1) * 4) words)
+planRowIn corridor links demands words k = planRow corridor links (demandRowIn links demands k) (stateRowIn links words k)

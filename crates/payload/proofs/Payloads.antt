@@ -1,7 +1,7 @@
 -- Laws of payload words that are put in place: the loop that puts them, and the payload once they are put.
 use mathlib.Core.List.{List}
 use mathlib.Core.Logic.{_≢_}
-use mathlib.Core.Path.{_≡_, refl, sym, ap, ap₂, _∙_, subst}
+use mathlib.Core.Path.{_≡_, refl, sym, ap, ap₂, _∙_}
 use Prim.Native.Nat.{ℕ, zero, suc, _+_, _-_, _*_, _/_, _%_, _≤_, _<_}
 use native.Mathlib.Decide.{decLt}
 use native.Mathlib.Nat.{zero-add}
@@ -9,13 +9,11 @@ use native.Mathlib.Numerals.{add-one}
 use native.Mathlib.Omega.{arith}
 use borrow.Rule.Slice.PartMut.{putMid}
 use lib.ListN.{length, getD, take, drop}
-use Rattle.tables.proofs.Grid.{Rowed, rowed-lent}
-use Rattle.tables.proofs.Numbers.{row-fits}
 use Rattle.tables.specs.Tabulate.{tabulate}
 use Rattle.tables.proofs.Part.{part-length, part-at, put-length, put-before, put-within, put-after}
 use Rattle.tables.proofs.Tabulate.{tabulate-length, tabulate-at, tabulate-is, tabulate-same, tabulate-part, Filled, filled-lent}
 use Rattle.payload.specs.Word.{Words, wordAt, putWord}
-use Rattle.payload.specs.File.{blocksFor, payloadPlace, payloadWord, payloadPart, payloadOf, putFirst, putPayload, fileOf}
+use Rattle.payload.specs.File.{blocksFor, payloadPlace, payloadWord, payloadPart, payloadOf, putFirst, putPayload}
 use Rattle.payload.proofs.Words.{put-word-length, word-put, word-other}
 
 -- ---- as a loop's invariant: i of the words are put
@@ -170,22 +168,6 @@ payload-put-all d words w f =
     let z : 0 + j ≡ j = zero-add j in
     let y : 0 + length words ≡ length words = zero-add (length words) in
     sym (ap (payloadWord (putPayload d 0 words)) (sym z) ∙ put-first-at (length words) d 0 words w (rw y f) j b)))
-
--- so what is sealed then is the file of the words
-pub put-sealed : (kind : ℕ) (d words : List ℕ) → Words words → blocksFor (length words) * 512 ≤ length d
-    → fileOf kind (payloadOf (length words) (putPayload d 0 words)) ≡ fileOf kind words
-put-sealed kind d words w f = ap (fileOf kind) (payload-put-all d words w f)
-
--- one more row of w words is put
-pub rowed-put : (k m w : ℕ) (g : ℕ → ℕ → ℕ) (d : List ℕ) (p at : ℕ) (l l′ ys : List ℕ) → Rowed k m w g d (payloadOf p l) → k < m → at ≡ k * w
-    → l′ ≡ putPayload l at ys → Words ys → length ys ≡ w → m * w ≤ p → blocksFor p * 512 ≤ length l → ((j : ℕ) → j < w → getD ys j 0 ≡ g k j)
-    → Rowed (k + 1) m w g d (payloadOf p l′)
-rowed-put k m w g d p at l l′ ys a h e u f q r s agree =
-    let old = payloadOf p l in
-    let fits : at + length ys ≤ p = omega (arith, row-fits k m w h) in
-    let back : putMid at (at + length ys - at) old ys ≡ putMid at (at + w - at) old ys = ap (λ (n : ℕ). putMid at (at + n - at) old ys) q in
-    subst (λ (x : List ℕ). Rowed (k + 1) m w g d x) (sym (ap (payloadOf p) u ∙ payload-put p at l ys f fits s ∙ back))
-    (rowed-lent k m w g d old at w (λ j. getD ys j 0) ys a h e (tabulate-is w (λ j. getD ys j 0) ys q (λ j b. refl)) refl agree)
 
 -- ---- a part of the payload is that part of it as a list
 

@@ -1,4 +1,4 @@
--- What rules 1 to 6 make of nodes 0..N is told by nodes 0..N alone: states, flows and plans that agree there do the same.
+-- What rules 1 to 6 make of nodes 0..N is told by nodes 0..N alone: states and flows that agree there do the same.
 use Prim.Native.Nat.{ℕ, zero, suc, _+_, _≤_, _<_}
 use mathlib.Core.Path.{_≡_, refl, sym, ap, _∙_}
 use mathlib.Core.Logic.{⊎-elim}
@@ -7,9 +7,9 @@ use Rattle.tables.specs.Sum.{sum}
 use Rattle.tables.proofs.Numbers.{le-or-lt}
 use Rattle.tables.proofs.Sum.{sum-same}
 use Rattle.road.specs.Corridor.{NodeState, Road, Plan, Flows, Trace, nodes}
-use Rattle.road.specs.Step.{receiving, flowsWith, outflow, moved}
-use Rattle.road.specs.Run.{supply, junction, inflow, next, planFlows, stateAt, run, cost}
-use Rattle.road.proofs.Runs.{supply-inside, supply-last, run-flows, run-last}
+use Rattle.road.specs.Step.{receiving, outflow, moved}
+use Rattle.road.specs.Run.{supply, junction, inflow, next, cost}
+use Rattle.road.proofs.Runs.{supply-inside, supply-last}
 
 -- equal at nodes 0..N
 abbrev pub Same : Road → {A : Type 0} → (ℕ → A) → (ℕ → A) → Type 0
@@ -60,11 +60,6 @@ module _ (road : Road) where
         supply = supply-same k state other i e h z;
       }
 
-  pub flows-same : (plan other : Plan) (k : ℕ) (state after : ℕ → NodeState) (i : ℕ) → SameSetting plan other k i → Same road state after → i ≤ road .links
-      → planFlows road plan k state i ≡ planFlows road other k after i
-  unfolding planFlows
-  flows-same plan other k state after i p e h = λ z. flowsWith (junction-same k state after i e h z) (p .rate z) (p .limit z)
-
   -- ---- rule 6
 
   pub inflow-same : (k : ℕ) (flows other : ℕ → Flows) (i : ℕ) → Same road flows other → i ≤ road .links → inflow road k flows i ≡ inflow road k other i
@@ -77,33 +72,7 @@ module _ (road : Road) where
   unfolding next
   next-same k state after flows other i e f h = λ z. moved (e i h z) (inflow-same k flows other i f h z) (road .arrivals k i) (f i h z)
 
-  -- ---- a run
-
-  pub state-same : (plan other : Plan) → SamePlans road plan other → (k : ℕ) → k ≤ road .steps → Same road (stateAt road plan k) (stateAt road other k)
-  unfolding stateAt
-  state-same plan other p zero h i hi = refl
-  state-same plan other p (suc k) h i hi =
-      let e : Same road (stateAt road plan k) (stateAt road other k) = state-same plan other p k (omega arith) in
-      next-same k (stateAt road plan k) (stateAt road other k) (planFlows road plan k (stateAt road plan k)) (planFlows road other k (stateAt road other k)) i e
-      (λ j hj. flows-same plan other k (stateAt road plan k) (stateAt road other k) j (p k j h hj) e hj)
-      hi
-
-  -- plans that agree do the same
-  pub run-same : (plan other : Plan) → SamePlans road plan other → SameTraces road (run road plan) (run road other)
-  unfolding run
-  run-same plan other p k i hk hi =
-      record {
-        state = state-same plan other p k hk i hi;
-        flows = ⊎-elim
-            (λ (g : road .steps ≤ k).
-            let q : k ≡ road .steps = omega arith in
-            ap (λ (j : ℕ). run road plan .flows j i) q ∙ run-last road plan i ∙ sym (ap (λ (j : ℕ). run road other .flows j i) q ∙ run-last road other i))
-            (λ (g : k < road .steps).
-            run-flows road plan k i g
-            ∙ flows-same plan other k (stateAt road plan k) (stateAt road other k) i (p k i g hi) (state-same plan other p k hk) hi
-            ∙ sym (run-flows road other k i g))
-            (le-or-lt (road .steps) k);
-      }
+  -- ---- the total cost
 
   pub cost-same : (trace other : Trace) → SameTraces road trace other → cost road trace ≡ cost road other
   unfolding cost

@@ -14,7 +14,7 @@ use Rattle.road.specs.Step.{Junction}
 use Rattle.road.proofs.Rules.{flows-eq, main-falls, ramp-rises}
 use Rattle.settings.specs.declared.Found.{Found}
 use Rattle.settings.specs.declared.Found.the-variants.{Rate, Nothing}
-use Rattle.settings.specs.Rate.{fullFlows, gives, reaches, candidate, smallest, rateFor}
+use Rattle.settings.specs.Rate.{fullFlows, gives, reaches, candidate, rateFor}
 use Rattle.settings.specs.Share.{Gives, Finds}
 
 module _ (junction : Junction) (wanted : Flows) where

@@ -50,10 +50,6 @@ refusal-refuses (suc x) row node y k i =
     let numbers : Refused (suc x) row node ≡ Refused y k i → suc x ≡ y = λ e. cc in
     (λ e. let n = numbers e in (n, λ z. omega arith, cc, cc), λ h. let n = h .0 in let r = h .2 in let d = h .3 in cc)
 
-pub number-refusal : (x row node : ℕ) → numberOf (refusal x row node) ≡ x
-number-refusal zero row node = refl
-number-refusal (suc x) row node = refl
-
 -- v is the number as the code has it
 pub refusal-none : (x v row node : ℕ) → v ≡ x → v ≡ 0 → refusal x row node ≡ Accepted
 refusal-none x v row node e h = refusal-accepts x row node .1 (sym e ∙ h)

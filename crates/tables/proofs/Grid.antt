@@ -2,15 +2,14 @@
 use mathlib.Core.List.{List, [], _∷_}
 use mathlib.Core.Path.{_≡_, refl, sym, ap, _∙_, subst}
 use Prim.Native.Nat.{ℕ, zero, suc, _+_, _-_, _*_, _/_, _%_, _≤_, _<_}
-use native.Mathlib.Nat.{zero-mul, add-zero, zero-add, mod-lt, div-add-mod', div-lt-iff-lt-mul, mul-le-mul-right}
+use native.Mathlib.Nat.{zero-mul, add-zero, zero-add, mod-lt, div-add-mod', div-lt-iff-lt-mul}
 use native.Mathlib.Omega.{arith}
 use borrow.Rule.Slice.PartMut.{putMid}
 use lib.Arith.{digits-div, digits-mod, digits-lt}
-use lib.ListN.{length, getD, set, take, drop}
+use lib.ListN.{length, getD, set}
 use Rattle.tables.specs.Tabulate.{tabulate}
 use Rattle.tables.specs.Grid.{cell, rowWords, grid, place}
 use Rattle.tables.proofs.Numbers.{row-fits}
-use Rattle.tables.proofs.Part.{part-length, part-at}
 use Rattle.tables.proofs.Tabulate.{tabulate-length, tabulate-at, tabulate-is, tabulate-same, Filled, filled-begun, filled-stored, filled-ended, filled-lent}
 
 -- ---- words by one index
@@ -81,16 +80,6 @@ grid-is c n m word l e h =
 
 pub grid-same : (c n m : ℕ) (v w : ℕ → ℕ → ℕ → ℕ) → ((k i q : ℕ) → k < m → i < n → q < c → v k i q ≡ w k i q) → grid c n m v ≡ grid c n m w
 grid-same c n m v w h = grid-is c n m w (grid c n m v) (grid-length c n m v) (λ k i q a b t. grid-at c n m v k i q 0 a b t ∙ h k i q a b t)
-
--- row k, as the code lends it
-pub grid-row : (c n m : ℕ) (word : ℕ → ℕ → ℕ → ℕ) (k at : ℕ) → k < m → at ≡ k * (n * c)
-    → take (at + n * c - at) (drop at (grid c n m word)) ≡ rowWords c n (word k)
-grid-row c n m word k at h e =
-    rowWords-is c n (word k) _ (part-length at (n * c) (m * (n * c)) (grid c n m word) (omega (arith, row-fits k m (n * c) h)) (grid-length c n m word))
-    (λ i q a b.
-    part-at at (n * c) (grid c n m word) (i * c + q) 0 (digits-lt a b)
-    ∙ ap (λ (j : ℕ). getD (grid c n m word) (j + (i * c + q)) 0) e
-    ∙ grid-at c n m word k i q 0 h a b)
 
 -- ---- as a loop's invariant: l is d with the first i of its n nodes, of c words each, those of `word`
 
@@ -204,13 +193,3 @@ pub rowed-grid : (k m w c n : ℕ) (word : ℕ → ℕ → ℕ → ℕ) (d l : L
 unfolding grid
 rowed-grid k m w c n word d l a e h =
     rowed-ended k m (n * c) (λ h. cell c (word h)) d l (subst (λ (x : ℕ). Rowed k m x (λ h. cell c (word h)) d l) e a) h
-
--- a row that is written already, read where it stands or lent again
-pub rowed-at : (k m w : ℕ) (g : ℕ → ℕ → ℕ) (d l : List ℕ) (h j : ℕ) → Rowed k m w g d l → h < k → j < w → getD l (h * w + j) 0 ≡ g h j
-rowed-at k m w g d l h j a b t = a .is .written (h * w + j) (digits-lt b t) ∙ cell-at w g h j t
-
-pub rowed-row : (k m w : ℕ) (g : ℕ → ℕ → ℕ) (d l : List ℕ) (h at : ℕ) → Rowed k m w g d l → h < k → at ≡ h * w
-    → take (at + w - at) (drop at l) ≡ tabulate w (g h)
-rowed-row k m w g d l h at a b e =
-    tabulate-is w (g h) _ (part-length at w (m * w) l (omega (arith, row-fits h k w b, mul-le-mul-right w (a .bound))) (a .room))
-    (λ j t. part-at at w l j 0 t ∙ ap (λ (x : ℕ). getD l (x + j) 0) e ∙ rowed-at k m w g d l h j a b t)

@@ -1,8 +1,7 @@
 -- Laws of sums by index, and the invariant of a loop that adds.
-use mathlib.Core.Logic.{⊎-elim}
 use mathlib.Core.Path.{_≡_, refl, sym, ap, _∙_}
 use Prim.Native.Nat.{ℕ, zero, suc, _+_, _*_, _≤_, _<_}
-use native.Mathlib.Nat.{not-suc-le-zero, le-of-suc-le-suc, eq-or-lt-of-le, add-suc, add-zero, zero-mul, suc-mul}
+use native.Mathlib.Nat.{add-suc, add-zero, zero-mul, suc-mul}
 use native.Mathlib.Numerals.{add-one}
 use native.Mathlib.Omega.{arith}
 use Rattle.tables.specs.Grid.{cell}
@@ -27,22 +26,6 @@ unfolding sum
 sum-bound zero b f h = omega arith
 sum-bound (suc n) b f h = omega (arith, sum-bound n b f (λ i l. h i (omega arith)), h n (omega arith))
 
-pub sum-mono : (n : ℕ) (f g : ℕ → ℕ) → ((i : ℕ) → i < n → f i ≤ g i) → sum n f ≤ sum n g
-unfolding sum
-sum-mono zero f g h = omega arith
-sum-mono (suc n) f g h = omega (arith, sum-mono n f g (λ i l. h i (omega arith)), h n (omega arith))
-
-pub sum-part : (n : ℕ) (f : ℕ → ℕ) (i : ℕ) → i < n → f i ≤ sum n f
-unfolding sum
-sum-part zero f i l = absurd (not-suc-le-zero l)
-sum-part (suc n) f i l =
-    ⊎-elim (λ e. omega (arith, ap f e)) (λ k. omega (arith, sum-part n f i k)) (eq-or-lt-of-le (le-of-suc-le-suc l))
-
-pub sum-plus : (n : ℕ) (f g : ℕ → ℕ) → sum n (λ i. f i + g i) ≡ sum n f + sum n g
-unfolding sum
-sum-plus zero f g = refl
-sum-plus (suc n) f g = omega (arith, sum-plus n f g)
-
 pub sum-append : (n m : ℕ) (f : ℕ → ℕ) → sum (n + m) f ≡ sum n f + sum m (λ j. f (n + j))
 unfolding sum
 sum-append n zero f = rw (add-zero n) (omega arith)
@@ -56,12 +39,6 @@ sum-grid (suc m) n f =
     ap (λ (k : ℕ). sum k (cell n f)) (suc-mul m n)
     ∙ sum-append (m * n) n (cell n f)
     ∙ omega (arith, sum-grid m n f, sum-same n (λ j. cell n f (m * n + j)) (f m) (λ i l. cell-at n f m i l))
-
--- rows first or columns first
-pub sum-exchange : (m n : ℕ) (f : ℕ → ℕ → ℕ) → sum m (λ k. sum n (f k)) ≡ sum n (λ i. sum m (λ k. f k i))
-unfolding sum
-sum-exchange zero n f = omega (arith, sum-bound n 0 (λ i. 0) (λ i l. omega arith))
-sum-exchange (suc m) n f = omega (arith, sum-exchange m n f, sum-plus n (λ i. sum m (λ k. f k i)) (f m))
 
 -- ---- as a loop's invariant: s is the sum of the first i of n, each at most b
 

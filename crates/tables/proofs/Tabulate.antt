@@ -73,9 +73,6 @@ filled-stored i n f d l v a h q e =
       rest = λ j b. getD-set-other l i j v 0 (λ t. omega arith) ∙ a .rest j (omega arith);
     }
 
-pub filled-at : (i : ℕ) (f : ℕ → ℕ) (d l : List ℕ) (j : ℕ) → Filled i f d l → j < i → getD l j 0 ≡ f j
-filled-at i f d l j a h = a .written j h
-
 pub filled-rest : (i : ℕ) (f : ℕ → ℕ) (d l : List ℕ) (j : ℕ) → Filled i f d l → i ≤ j → getD l j 0 ≡ getD d j 0
 filled-rest i f d l j a h = a .rest j h
 

@@ -11,6 +11,7 @@ ghost use Rattle.payload.specs.File.{payloadOf, putPayload};
 ghost use Rattle.payload.specs.Word.{Words};
 ghost use Rattle.files.specs.Files.{demandsIn, recordIn, planFile};
 ghost use Rattle.files.specs.Fits.{Holds, FilesFit, Accepts, planRowIn};
+use crate::inner::unpacked;
 use lists::inner::scans;
 use payload::inner::place;
 use payload::inner::sealing;
@@ -33,17 +34,16 @@ fn put_step(
 {
     let narrow = (links + 1) * 2;
     let wide = (links + 1) * 4;
-    let at = scans::row_at(k, narrow, steps);
     let mut demand_room = [0u32; 130];
     let demand = &mut demand_room[..narrow];
-    place::unpack(demands, 1 + at, demand);
+    unpacked::demand_words(demands, links, steps, k, demand);
     let mut room = [0u32; 260];
     let row = &mut room[..wide];
-    place::unpack(words, scans::row_at(k, wide, steps + 1), row);
+    unpacked::state_words(words, links, steps, k, row);
     let mut plan_room = [0u32; 130];
     let out = &mut plan_room[..narrow];
     convert::inner::plans::plan_row(corridor, links, demand, row, out);
-    place::put(plan, at, out);
+    place::put(plan, scans::row_at(k, narrow, steps), out);
 }
 
 // The settings of all steps, put into the plan file.

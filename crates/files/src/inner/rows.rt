@@ -11,8 +11,8 @@ ghost use Rattle.convert.specs.Rows.{bareRoad, fixedRefusal, stepsRefusal, Read
 ghost use Rattle.convert.proofs.Answers.{stateCost};
 ghost use Rattle.files.specs.Files.{demandsIn, recordIn};
 ghost use Rattle.files.specs.Fits.{Holds};
+use crate::inner::unpacked;
 use lists::inner::scans;
-use payload::inner::place;
 use tables::Answer;
 
 // The first node of step k with refusal 5.
@@ -23,7 +23,7 @@ pub fn demand_at(links: usize, steps: usize, demands: &[u8], k: usize) -> Answer
     let width = (links + 1) * 2;
     let mut room = [0u32; 130];
     let row = &mut room[..width];
-    place::unpack(demands, 1 + scans::row_at(k, width, steps), row);
+    unpacked::demand_words(demands, links, steps, k, row);
     scans::demand_row(k, links, row)
 }
 
@@ -36,7 +36,7 @@ pub fn fixed_at(corridor: &[u32], links: usize, steps: usize, words: &[u8], k: u
     let width = (links + 1) * 4;
     let mut room = [0u32; 260];
     let row = &mut room[..width];
-    place::unpack(words, scans::row_at(k, width, steps + 1), row);
+    unpacked::state_words(words, links, steps, k, row);
     convert::inner::rows::fixed_row(corridor, links, steps, k, row)
 }
 
@@ -60,13 +60,13 @@ pub fn step_at(
     let wide = (links + 1) * 4;
     let mut demand_room = [0u32; 130];
     let demand = &mut demand_room[..narrow];
-    place::unpack(demands, 1 + scans::row_at(k, narrow, steps), demand);
+    unpacked::demand_words(demands, links, steps, k, demand);
     let mut room = [0u32; 260];
     let row = &mut room[..wide];
-    place::unpack(words, scans::row_at(k, wide, steps + 1), row);
+    unpacked::state_words(words, links, steps, k, row);
     let mut after_room = [0u32; 260];
     let after = &mut after_room[..wide];
-    place::unpack(words, scans::row_at(k + 1, wide, steps + 1), after);
+    unpacked::state_words(words, links, steps, k + 1, after);
     convert::inner::rows::step_row(k, corridor, links, demand, row, after)
 }
 
@@ -78,6 +78,6 @@ pub fn cost_at(links: usize, steps: usize, words: &[u8], k: usize) -> u64
     let width = (links + 1) * 4;
     let mut room = [0u32; 260];
     let row = &mut room[..width];
-    place::unpack(words, scans::row_at(k + 1, width, steps + 1), row);
+    unpacked::state_words(words, links, steps, k + 1, row);
     simulate::inner::rows::row_cost(links, row)
 }

@@ -16,6 +16,7 @@ ghost use Rattle.normal.specs.Fits.{statedCost};
 ghost use Rattle.normal.specs.Text.{decimal, spaced, planWord, refusedLine, headLine, settingLine, planLine};
 use crate::inner::input;
 use crate::inner::text;
+use files::inner::unpacked;
 use lists::inner::scans;
 use lists::inner::words;
 use payload::inner::place;
@@ -129,10 +130,10 @@ fn setting_of(
     let wide = (links + 1) * 4;
     let mut demand_room = [0u32; 130];
     let demand = &mut demand_room[..narrow];
-    place::unpack(demands, 1 + scans::row_at(k, narrow, steps), demand);
+    unpacked::demand_words(demands, links, steps, k, demand);
     let mut room = [0u32; 260];
     let row = &mut room[..wide];
-    place::unpack(words, scans::row_at(k, wide, steps + 1), row);
+    unpacked::state_words(words, links, steps, k, row);
     convert::inner::plans::setting_at(corridor, links, demand, row, i)
 }
 
