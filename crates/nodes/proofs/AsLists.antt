@@ -14,8 +14,10 @@ use contract.Lifetimes.{Lfts}
 use denote.Ref.{RefT, now}
 use denote.Triple.Clauses.{AtExit}
 use Rattle.tables.specs.declared.Answer.{Answer}
+use Rattle.tables.proofs.Answer as S
 use Rattle.nodes.specs.declared.Node.{Node}
 use Rattle.nodes.specs.Nodes.{corridorWords}
+use Rattle.nodes.proofs.OnNodes.{Lists}
 use Rattle.nodes.proofs.Promises.{simulates, checks, converts, normalizes}
 use Rattle.simulate.proofs.simulate as simulate
 use Rattle.convert.proofs.check as check
@@ -25,13 +27,6 @@ use Rattle.nodes.proofs.simulate_nodes as simulate-nodes
 use Rattle.nodes.proofs.check_nodes as check-nodes
 use Rattle.nodes.proofs.convert_nodes as convert-nodes
 use Rattle.nodes.proofs.normal_form_nodes as normal-form-nodes
-
--- what is had at exit beside the corridor: demands and plan or record, and one lent list or two
-abbrev OneLent : Type 0
-OneLent = RefT (List ℕ) × (RefT (List ℕ) × (RefT (List ℕ) × Unit {0}))
-
-abbrev TwoLent : Type 0
-TwoLent = RefT (List ℕ) × (RefT (List ℕ) × (RefT (List ℕ) × (RefT (List ℕ) × Unit {0})))
 
 module _ {M : Type 1} (𝓤 : URA M) (H : Heap 𝓤) (A : Atoms 𝓤) (mem : Memory → SProp 𝓤) (run : Routine → Fun 𝓤) where
   -- `corridor` is a list that holds the words of the nodes; r is any answer; e and f are the parameters at exit, alike but for the corridor
@@ -49,9 +44,8 @@ module _ {M : Type 1} (𝓤 : URA M) (H : Heap 𝓤) (A : Atoms 𝓤) (mem : Mem
   pub nodes-as-lists : (nodes : RefT (List Node)) (corridor : RefT (List ℕ)) → now corridor ≡ corridorWords (now nodes) → NodesAsLists nodes corridor
   nodes-as-lists nodes corridor words =
       record {
-        simulate = λ κs demands plan lent r e f same. ap₂ (λ (c l : List ℕ). simulates 𝓤 c (now demands) (now plan) (now lent) r l) (sym words) (ap (λ (x : OneLent). now (x .1 .1 .0)) same);
-        check = λ κs demands proposed r e f. ap (λ (c : List ℕ). checks 𝓤 c (now demands) (now proposed) r) (sym words);
-        convert = λ κs demands proposed lent r e f same. ap₂ (λ (c l : List ℕ). converts 𝓤 c (now demands) (now proposed) (now lent) r l) (sym words) (ap (λ (x : OneLent). now (x .1 .1 .0)) same);
-        normalForm = λ κs demands plan work lent r e f same.
-            ap₂ (λ (c : List ℕ) (x : TwoLent). normalizes 𝓤 c (now demands) (now plan) (now work) (now lent) r (now (x .1 .1 .0)) (now (x .1 .1 .1 .0))) (sym words) same;
+        simulate = λ κs demands plan lent r e f same. ap₂ (λ (c : List ℕ) (x : Lists 3). simulates 𝓤 S.the-row (λ a. a) c (demands, (plan, (lent, tt))) r x) (sym words) same;
+        check = λ κs demands proposed r e f. ap (λ (c : List ℕ). checks 𝓤 S.the-row (λ a. a) c (demands, (proposed, tt)) r (e .1)) (sym words);
+        convert = λ κs demands proposed lent r e f same. ap₂ (λ (c : List ℕ) (x : Lists 3). converts 𝓤 S.the-row (λ a. a) c (demands, (proposed, (lent, tt))) r x) (sym words) same;
+        normalForm = λ κs demands plan work lent r e f same. ap₂ (λ (c : List ℕ) (x : Lists 4). normalizes 𝓤 S.the-row (λ a. a) c (demands, (plan, (work, (lent, tt)))) r x) (sym words) same;
       }

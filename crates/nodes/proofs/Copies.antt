@@ -13,6 +13,7 @@ use denote.Struct.Laws as LL
 use Rattle.tables.proofs.Numbers.{le-or-lt}
 use Rattle.nodes.specs.declared.Node.{Node}
 use Rattle.nodes.specs.declared.inner.words.Words.{Words}
+use Rattle.tables.proofs.Sets.{all}
 use Rattle.nodes.specs.Nodes.{nodeWords, nodeIn, corridorWords, taken, wordCount, given, wordsTaken, withNode}
 use Rattle.nodes.proofs.Counts.{taken-all, taken-bound, none-or-all, count-none, count-all}
 use Rattle.nodes.proofs.Words.{nine, words-length, words-first, words-at, taken-none, taken-whole}
@@ -29,6 +30,8 @@ inside w vs p h = omega (arith, as-long w vs p)
 
 pub as-many : (w : Words) (vs : List Val) → Is T.the-row w vs → w .length ≤ 586 → w .length ≡ length (given w)
 as-many w vs p h = sym (length-take-le (w .length) (w .at) (inside w vs p h))
+
+pub ruleset front = (all, inside, as-many)
 
 -- ---- words stored one after another from the place k on
 

@@ -2,9 +2,8 @@ pub mod Counts
 pub mod Words
 pub mod Copies
 pub mod Answers
-pub mod FirstCall
-pub mod NoneLent
-pub mod OneLent
-pub mod TwoLent
+pub mod Frame
+pub mod OnNodes
+pub mod Lent
 pub mod Promises
 pub mod AsLists

@@ -1,2 +1,4 @@
 pub mod Input
 pub mod Text
+pub mod Printed
+pub mod Cases

@@ -4,6 +4,8 @@ use Prim.Native.Nat.{ℕ, zero, suc, _+_, _/_, _%_}
 use mathlib.Core.Bool.{cond}
 use mathlib.Core.List.{List, [], _∷_, _++_}
 use lib.Dec.{ltb}
+use Rattle.tables.specs.declared.Answer.{Answer}
+use Rattle.tables.specs.declared.Answer.the-variants.{Accepted, Refused}
 use Rattle.road.specs.Corridor.{Road, Trace}
 use Rattle.road.specs.Run.{cost}
 use Rattle.settings.specs.declared.Setting.{Setting}
@@ -12,7 +14,7 @@ use Rattle.settings.specs.Setting.{rateIn, limitIn}
 use Rattle.lists.specs.Words.{roadOf, traceOf}
 use Rattle.convert.specs.Convert.{settingAt}
 use Rattle.files.specs.Files.{corridorIn, demandsIn, recordIn}
-use Rattle.normal.specs.Input.{linksIn, stepsIn, corridorFile, demandsFile, recordFile}
+use Rattle.normal.specs.Input.{linksIn, stepsIn, corridorFile, demandsFile, recordFile, inputAnswer}
 
 -- ---- numbers
 
@@ -69,3 +71,26 @@ settingLine k identifier fullSpeed setting =
 unfoldable pub planLine : List ℕ → ℕ → ℕ → List ℕ
 planLine input k i =
     settingLine k (inputRoad input .node i .identifier) (inputRoad input .node i .link .fullSpeed) (settingAt (inputRoad input) (inputTrace input) k i)
+
+-- ---- all of it
+
+-- lines 0..n − 1, one after another
+unfoldable pub linesOf : ℕ → (ℕ → List ℕ) → List ℕ
+linesOf zero line = []
+linesOf (suc n) line = linesOf n line ++ line n
+
+-- the lines of step k, node by node
+unfoldable pub stepText : List ℕ → ℕ → List ℕ
+stepText input k = linesOf (linksIn input + 1) (planLine input k)
+
+-- those of an accepted input: the first line, then step by step
+unfoldable pub planText : List ℕ → List ℕ
+planText input = headLine input ++ linesOf (stepsIn input) (stepText input)
+
+abbrev pub textFor : Answer → List ℕ → List ℕ
+textFor Accepted input = planText input
+textFor (Refused number row node) input = refusedLine number row node
+
+-- what the program prints for an input
+unfoldable pub printed : List ℕ → List ℕ
+printed input = textFor (inputAnswer input) input

@@ -2,10 +2,11 @@
 ghost use Prim.Native.Nat.{_≤_};
 use crate::say;
 
-// What every word, and every byte, of a lent list is before a call. No right answer of these runs holds either.
+// What every word of a lent list is before a call. No right answer of these runs holds it.
 pub const LENT_WORD: u32 = 2863311530;
 
-pub const LENT_BYTE: u8 = 170;
+// Room for the longest list of one step.
+pub type List = [u32; 600];
 
 // A word of a list, 0 past its end.
 pub fn word(list: &[u32], at: usize) -> u32 {
@@ -21,7 +22,7 @@ pub fn set(list: &mut [u32], at: usize, to: u32) {
     }
 }
 
-fn least(a: usize, b: usize) -> usize
+pub fn least(a: usize, b: usize) -> usize
     ensures { λ r. ⌜ r ≤ b ⌝ }
 {
     if a < b { a } else { b }
@@ -69,13 +70,7 @@ pub fn lend(list: &mut [u32]) {
     repeat(list, 0, &row);
 }
 
-pub fn copy(from: &[u32], to: &mut [u32]) {
-    for i in 0..from.len() {
-        set(to, i, word(from, i));
-    }
-}
-
-fn one_more(found: bool, count: usize, most: usize) -> usize {
+pub fn one_more(found: bool, count: usize, most: usize) -> usize {
     if found {
         if count < most {
             return count + 1;
@@ -93,7 +88,7 @@ fn words_left(list: &[u32]) -> usize {
     count
 }
 
-fn say_left(left: usize, length: usize) {
+pub fn say_left(left: usize, length: usize) {
     if left == length {
         say::text(b" kept");
         return;
@@ -110,71 +105,13 @@ pub fn say_kept(list: &[u32]) {
     say_left(words_left(list), list.len());
 }
 
-fn alike(a: &[u32], b: &[u32], at: usize) -> bool {
-    word(a, at) == word(b, at)
-}
-
-// Whether two lists have the same words.
-pub fn same(a: &[u32], b: &[u32]) -> bool {
-    let mut differing = 0;
-    for i in 0..a.len() {
-        if !alike(a, b, i) {
-            differing = one_more(true, differing, a.len());
-        }
-    }
-    if a.len() == b.len() {
-        return differing == 0;
-    }
-    false
-}
-
-// Says whether two lists have the same words.
-pub fn say_same(a: &[u32], b: &[u32]) {
-    if same(a, b) {
-        say::text(b", the same words");
-        return;
-    }
-    say::text(b", other words");
-}
-
 // The first bytes of a file, or all where there are fewer.
 pub fn bytes(file: &[u8], length: usize) -> &[u8] {
     let end = least(length, file.len());
     &file[0..end]
 }
 
-pub fn lent_bytes(file: &mut [u8], length: usize) -> &mut [u8] {
-    let end = least(length, file.len());
-    &mut file[0..end]
-}
-
-pub fn byte(file: &[u8], at: usize) -> u8 {
-    if at < file.len() {
-        return file[at];
-    }
-    0
-}
-
-pub fn set_byte(file: &mut [u8], at: usize, to: u8) {
-    if at < file.len() {
-        file[at] = to;
-    }
-}
-
-pub fn lend_bytes(file: &mut [u8]) {
-    for i in 0..file.len() {
-        set_byte(file, i, LENT_BYTE);
-    }
-}
-
-fn bytes_left(file: &[u8]) -> usize {
-    let mut count = 0;
-    for i in 0..file.len() {
-        count = one_more(byte(file, i) == LENT_BYTE, count, file.len());
-    }
-    count
-}
-
-pub fn say_bytes_kept(file: &[u8]) {
-    say_left(bytes_left(file), file.len());
+pub fn bytes_from(file: &[u8], from: usize) -> &[u8] {
+    let start = least(from, file.len());
+    &file[start..]
 }

@@ -1,6 +1,5 @@
-// What the test program `cases` is made of: the lists of B, changes of a word, the calls with what they say, and printing.
+// What the test program `cases` is made of: cases as lines of text, the lists of B, the calls with what they say, and printing.
 pub mod b;
-pub mod calls;
-pub mod changes;
 pub mod content;
+pub mod line;
 pub mod say;

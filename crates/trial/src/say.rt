@@ -1,4 +1,5 @@
 // What the program prints: text, numbers, answers, and the words of a list.
+use crate::line;
 use tables::Answer;
 
 pub fn text(bytes: &[u8]) {
@@ -9,14 +10,28 @@ pub fn number(n: u32) {
     io::print_decimal(1, n as u64);
 }
 
-pub fn length(n: usize) {
-    io::print_decimal(1, n as u64);
+pub fn comma() {
+    text(b",");
+}
+
+pub fn space() {
+    text(b" ");
+}
+
+pub fn line_end() {
+    text(b"\n");
 }
 
 pub fn heading(bytes: &[u8]) {
-    text(b"\n");
+    line_end();
     text(bytes);
-    text(b"\n");
+    line_end();
+}
+
+// What a case says, with its colon.
+pub fn case(case: &[u8]) {
+    text(line::said(case));
+    text(b":");
 }
 
 // A refusal as its number, row and node.
@@ -31,9 +46,9 @@ pub fn answer(given: Answer) {
             node,
         } => {
             number(refusal);
-            text(b" ");
+            space();
             number(row);
-            text(b" ");
+            space();
             number(node);
         }
     }
@@ -41,9 +56,9 @@ pub fn answer(given: Answer) {
 
 fn word(before: u32, n: u32) {
     if before == 0 {
-        text(b",");
+        comma();
     }
-    text(b" ");
+    space();
     number(n);
 }
 
@@ -68,5 +83,5 @@ pub fn words(list: &[u32], width: u32) {
         word(left, list[i]);
         left = one_less(left, width);
     }
-    text(b"\n");
+    line_end();
 }

@@ -1,116 +1,24 @@
-// The refusal table's own examples for lists, 1 to 13, on B.
-use trial::b;
-use trial::calls;
-use trial::changes;
-use trial::changes::B;
-use trial::changes::CORRIDOR;
-use trial::changes::COST;
-use trial::changes::Change;
-use trial::changes::DEMANDS;
-use trial::changes::FLOW;
-use trial::changes::IDENTIFIER;
-use trial::changes::J;
-use trial::changes::LOW;
-use trial::changes::PLAN;
-use trial::changes::RAMP;
-use trial::changes::RATE;
-use trial::changes::RECORD;
-use trial::changes::START_N;
-use trial::changes::VEHICLES;
-use trial::content;
+// The refusal table's own examples for lists, 2 to 13, on B; that of 1 is among the lengths.
+use crate::on_b;
+use crate::on_b::Lists;
 use trial::say;
 
-// Of 2 to 8, then 11 and 13, each by one change.
-const EXAMPLES: [[u32; 5]; 9] = [
-    [CORRIDOR, 0, 1, J, 65537],
-    [CORRIDOR, 0, 2, IDENTIFIER, 20],
-    [CORRIDOR, 0, 1, START_N, 401],
-    [DEMANDS, 0, 1, B, 65537],
-    [PLAN, 0, 1, RATE, 61],
-    [RECORD, 1, 1, FLOW, 1],
-    [RECORD, 0, 1, FLOW, 101],
-    [RECORD, 1, 1, VEHICLES, 121],
-    [COST, 2, 0, LOW, 371],
-];
-
-fn example(i: usize) -> Change {
-    if i < 9 {
-        return changes::of(EXAMPLES[i]);
-    }
-    changes::none()
-}
-
-// All four calls on B's lists with two words changed.
-fn tried(first: Change, second: Change) {
-    let mut corridor = b::corridor();
-    let mut demands = b::demands();
-    let mut plan = b::plan();
-    let mut words = b::words();
-    let mut lent_record = [0u32; 26];
-    let mut lent_plan = [0u32; 6];
-    changes::apply_to_all(first, 3, &mut corridor, &mut demands, &mut plan, &mut words);
-    changes::apply_to_all(
-        second,
-        3,
-        &mut corridor,
-        &mut demands,
-        &mut plan,
-        &mut words,
-    );
-    changes::say_both(first, second);
-    calls::all(
-        &corridor,
-        &demands,
-        &plan,
-        &words,
-        &mut lent_record,
-        &mut lent_plan,
-    );
-}
-
-fn with_one_change() {
-    for i in 0..9 {
-        tried(example(i), changes::none());
-    }
-}
-
-// 9 and 10.
-fn with_two_changes() {
-    let flow_100 = changes::of([RECORD, 0, 1, FLOW, 100]);
-    let ramp_26 = changes::of([RECORD, 0, 1, RAMP, 26]);
-    let flow_0 = changes::of([RECORD, 0, 1, FLOW, 0]);
-    let ramp_51 = changes::of([RECORD, 0, 1, RAMP, 51]);
-    tried(flow_100, ramp_26);
-    tried(flow_0, ramp_51);
-}
-
-// 12 on a record that is right but for the queue of ramp 1, next 110. The work record stays filled.
-fn queue_above_its_limit() {
-    let mut corridor = b::corridor();
-    let mut demands = b::demands();
-    let plan = b::plan_with(0);
-    let words = b::record_with(100, 0, 100, 175, 110, 415);
-    let mut lent_record = [0u32; 26];
-    let mut lent_plan = [0u32; 6];
-    content::set(&mut corridor, 16, 50);
-    content::set(&mut demands, 3, 60);
-    say::text(b"L = 50, Q = 60, r = 0 at node 1:");
-    calls::all(
-        &corridor,
-        &demands,
-        &plan,
-        &words,
-        &mut lent_record,
-        &mut lent_plan,
-    );
-    say::text(b"the work record of that normal form:");
-    say::words(&lent_record, 4);
-}
+// Of 2 to 8, 11 and 13 by one change, then of 9, 10 and 12. The record of 12 is right but for the queue of ramp 1, next 110.
+const EXAMPLES: [u8; 619] = *b"unchanged: all
+J of node 1 is 65537: all c14=65537
+identifier of node 2 is 20: all c19=20
+start n of node 1 is 401: all c17=401
+b of step 0, node 1 is 65537: all d4=65537
+rate of step 0, node 1 is 61: all p2=61
+f of state 1, node 1 is 1: all r18=1
+f of state 0, node 1 is 101: all r6=101
+n of state 1, node 1 is 121: all r16=121
+low word of the cost is 371: all r24=371
+f of state 0, node 1 is 100 and r of state 0, node 1 is 26: all r6=100 r7=26
+f of state 0, node 1 is 0 and r of state 0, node 1 is 51: all r6=0 r7=51
+L = 50, Q = 60, r = 0 at node 1: work c16=50 d3=60 p2=0 r6=100 r7=0 r16=100 r17=110 r20=175 r24=415";
 
 pub fn run() {
     say::heading(b"Refusal table, its own examples 2 to 13 in B");
-    tried(changes::none(), changes::none());
-    with_one_change();
-    with_two_changes();
-    queue_above_its_limit();
+    on_b::all(Lists::OneStep, &EXAMPLES, 13);
 }

@@ -1,11 +1,14 @@
-// Worked cases and refusals on word lists of B.
+// Worked cases and refusals on word lists of B, and how a case on word lists is run.
+pub mod calls;
 pub mod examples;
 pub mod limits;
+pub mod on_b;
 pub mod order;
 pub mod places;
+pub mod run;
 pub mod worked;
 
-pub fn run() {
+pub fn all() {
     worked::run();
     examples::run();
     places::run();

@@ -1,78 +1,29 @@
 // Which of two refusals is given, and which of two places is named, on B for two steps.
-use crate::places;
-use trial::changes;
-use trial::changes::B;
-use trial::changes::CORRIDOR;
-use trial::changes::COST;
-use trial::changes::Change;
-use trial::changes::DEMANDS;
-use trial::changes::FLOW;
-use trial::changes::IDENTIFIER;
-use trial::changes::J;
-use trial::changes::L;
-use trial::changes::LIMIT;
-use trial::changes::LOW;
-use trial::changes::PLAN;
-use trial::changes::Q;
-use trial::changes::QUEUE;
-use trial::changes::RAMP;
-use trial::changes::RATE;
-use trial::changes::RECORD;
-use trial::changes::START_L;
-use trial::changes::START_N;
-use trial::changes::VEHICLES;
+use crate::on_b;
+use crate::on_b::Lists;
 use trial::say;
 
 // The change that is refused, then the other one.
-const PAIRS: [[u32; 10]; 17] = [
-    [CORRIDOR, 0, 2, J, 65537, CORRIDOR, 0, 0, IDENTIFIER, 0],
-    [CORRIDOR, 0, 2, L, 1, CORRIDOR, 0, 0, START_N, 1],
-    [CORRIDOR, 0, 2, START_L, 1, DEMANDS, 0, 0, Q, 65537],
-    [DEMANDS, 1, 2, B, 1, PLAN, 0, 0, RATE, 101],
-    [DEMANDS, 1, 2, B, 1, RECORD, 0, 0, VEHICLES, 1],
-    [RECORD, 2, 2, RAMP, 1, RECORD, 0, 1, FLOW, 101],
-    [RECORD, 0, 1, FLOW, 101, RECORD, 0, 1, RAMP, 4294967295],
-    [RECORD, 1, 1, QUEUE, 21, RECORD, 0, 2, FLOW, 101],
-    [CORRIDOR, 0, 0, L, 29, RECORD, 0, 1, FLOW, 101],
-    [RECORD, 1, 0, QUEUE, 31, CORRIDOR, 0, 0, L, 30],
-    [RECORD, 2, 2, VEHICLES, 166, COST, 3, 0, LOW, 666],
-    [CORRIDOR, 0, 1, J, 65537, CORRIDOR, 0, 2, J, 65537],
-    [
-        CORRIDOR,
-        0,
-        1,
-        IDENTIFIER,
-        10,
-        CORRIDOR,
-        0,
-        2,
-        IDENTIFIER,
-        10,
-    ],
-    [DEMANDS, 0, 2, B, 1, DEMANDS, 1, 0, Q, 65537],
-    [PLAN, 0, 2, LIMIT, 32769, PLAN, 1, 0, RATE, 101],
-    [RECORD, 0, 2, QUEUE, 1, RECORD, 1, 0, VEHICLES, 1],
-    [RECORD, 0, 0, RAMP, 101, RECORD, 1, 1, FLOW, 61],
-];
-
-fn pair(i: usize) -> [u32; 10] {
-    if i < 17 {
-        return PAIRS[i];
-    }
-    [0; 10]
-}
-
-fn first(words: [u32; 10]) -> Change {
-    changes::of([words[0], words[1], words[2], words[3], words[4]])
-}
-
-fn second(words: [u32; 10]) -> Change {
-    changes::of([words[5], words[6], words[7], words[8], words[9]])
-}
+const PAIRS: [u8; 1362] = *b"J of node 2 is 65537 and identifier of node 0 is 0: all c23=65537 c1=0
+L of node 2 is 1 and start n of node 0 is 1: all c25=1 c8=1
+start l of node 2 is 1 and Q of step 0, node 0 is 65537: all c27=1 d1=65537
+b of step 1, node 2 is 1 and rate of step 0, node 0 is 101: all d12=1 p0=101
+b of step 1, node 2 is 1 and n of state 0, node 0 is 1: all d12=1 r0=1
+r of state 2, node 2 is 1 and f of state 0, node 1 is 101: all r35=1 r6=101
+f of state 0, node 1 is 101 and r of state 0, node 1 is 4294967295: all r6=101 r7=4294967295
+l of state 1, node 1 is 21 and f of state 0, node 2 is 101: all r17=21 r10=101
+L of node 0 is 29 and f of state 0, node 1 is 101: all c7=29 r6=101
+l of state 1, node 0 is 31 and L of node 0 is 30: all r13=31 c7=30
+n of state 2, node 2 is 166 and low word of the cost is 667: all r32=166 r36=667
+J of node 1 is 65537 and J of node 2 is 65537: all c14=65537 c23=65537
+identifier of node 1 is 10 and identifier of node 2 is 10: all c10=10 c19=10
+b of step 0, node 2 is 1 and Q of step 1, node 0 is 65537: all d6=1 d7=65537
+limit of step 0, node 2 is 32769 and rate of step 1, node 0 is 101: all p5=32769 p6=101
+l of state 0, node 2 is 1 and n of state 1, node 0 is 1: all r9=1 r12=1
+r of state 0, node 0 is 101 and f of state 1, node 1 is 61: all r3=101 r18=61
+f of state 0, node 2 is 101 and f of state 1, node 1 is 121: all r10=101 r18=121";
 
 pub fn run() {
     say::heading(b"Two refusals due, B for two steps");
-    for i in 0..17 {
-        places::tried(first(pair(i)), second(pair(i)));
-    }
+    on_b::all(Lists::TwoSteps, &PAIRS, 18);
 }

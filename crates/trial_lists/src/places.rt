@@ -1,163 +1,88 @@
 // Each refusal of lists, 2 to 13, at the first and at the last place where it can occur, on B for two steps.
-use trial::b;
-use trial::calls;
-use trial::changes;
-use trial::changes::B;
-use trial::changes::C;
-use trial::changes::CORRIDOR;
-use trial::changes::COST;
-use trial::changes::Change;
-use trial::changes::DEMANDS;
-use trial::changes::F;
-use trial::changes::FLOW;
-use trial::changes::HIGH;
-use trial::changes::IDENTIFIER;
-use trial::changes::J;
-use trial::changes::L;
-use trial::changes::LIMIT;
-use trial::changes::LOW;
-use trial::changes::PLAN;
-use trial::changes::Q;
-use trial::changes::QUEUE;
-use trial::changes::RAMP;
-use trial::changes::RATE;
-use trial::changes::RECORD;
-use trial::changes::START_L;
-use trial::changes::START_N;
-use trial::changes::V;
-use trial::changes::VEHICLES;
-use trial::changes::W;
+use crate::on_b;
+use crate::on_b::Lists;
 use trial::say;
 
-const PLACES: [[u32; 5]; 73] = [
-    [CORRIDOR, 0, 0, F, 1],
-    [CORRIDOR, 0, 0, V, 1],
-    [CORRIDOR, 0, 0, W, 1],
-    [CORRIDOR, 0, 0, J, 1],
-    [CORRIDOR, 0, 1, F, 65537],
-    [CORRIDOR, 0, 1, V, 0],
-    [CORRIDOR, 0, 1, V, 65537],
-    [CORRIDOR, 0, 1, W, 0],
-    [CORRIDOR, 0, 1, W, 65537],
-    [CORRIDOR, 0, 1, J, 0],
-    [CORRIDOR, 0, 2, F, 65537],
-    [CORRIDOR, 0, 2, V, 65537],
-    [CORRIDOR, 0, 2, W, 65537],
-    [CORRIDOR, 0, 2, J, 65537],
-    [CORRIDOR, 0, 0, IDENTIFIER, 0],
-    [CORRIDOR, 0, 0, IDENTIFIER, 30],
-    [CORRIDOR, 0, 1, IDENTIFIER, 10],
-    [CORRIDOR, 0, 2, IDENTIFIER, 10],
-    [CORRIDOR, 0, 2, IDENTIFIER, 0],
-    [CORRIDOR, 0, 0, C, 65537],
-    [CORRIDOR, 0, 0, L, 134217729],
-    [CORRIDOR, 0, 1, C, 65537],
-    [CORRIDOR, 0, 1, L, 134217729],
-    [CORRIDOR, 0, 2, C, 1],
-    [CORRIDOR, 0, 2, L, 1],
-    [CORRIDOR, 0, 0, START_N, 1],
-    [CORRIDOR, 0, 0, START_L, 1001],
-    [CORRIDOR, 0, 1, START_L, 201],
-    [CORRIDOR, 0, 2, START_N, 401],
-    [CORRIDOR, 0, 2, START_L, 1],
-    [DEMANDS, 0, 0, Q, 65537],
-    [DEMANDS, 0, 0, B, 1],
-    [DEMANDS, 1, 1, Q, 65537],
-    [DEMANDS, 1, 1, B, 65537],
-    [DEMANDS, 1, 2, Q, 1],
-    [DEMANDS, 1, 2, B, 1],
-    [PLAN, 0, 0, RATE, 101],
-    [PLAN, 0, 0, LIMIT, 1],
-    [PLAN, 1, 1, RATE, 61],
-    [PLAN, 1, 1, LIMIT, 32769],
-    [PLAN, 1, 2, RATE, 1],
-    [PLAN, 1, 2, LIMIT, 32769],
-    [RECORD, 0, 0, VEHICLES, 1],
-    [RECORD, 0, 0, QUEUE, 1],
-    [RECORD, 0, 0, FLOW, 1],
-    [RECORD, 0, 1, VEHICLES, 199],
-    [RECORD, 0, 1, QUEUE, 49],
-    [RECORD, 0, 2, VEHICLES, 199],
-    [RECORD, 0, 2, QUEUE, 1],
-    [RECORD, 1, 0, VEHICLES, 1],
-    [RECORD, 1, 0, FLOW, 1],
-    [RECORD, 1, 2, RAMP, 1],
-    [RECORD, 2, 0, RAMP, 1],
-    [RECORD, 2, 1, FLOW, 1],
-    [RECORD, 2, 2, QUEUE, 1],
-    [RECORD, 2, 2, FLOW, 1],
-    [RECORD, 2, 2, RAMP, 1],
-    [RECORD, 0, 1, FLOW, 101],
-    [RECORD, 0, 1, FLOW, 4294967295],
-    [RECORD, 1, 1, FLOW, 61],
-    [RECORD, 1, 2, FLOW, 101],
-    [RECORD, 0, 0, RAMP, 101],
-    [RECORD, 0, 1, RAMP, 4294967295],
-    [RECORD, 1, 1, RAMP, 56],
-    [RECORD, 0, 0, RAMP, 1],
-    [RECORD, 1, 1, RAMP, 21],
-    [CORRIDOR, 0, 1, C, 39],
-    [RECORD, 1, 0, QUEUE, 31],
-    [RECORD, 1, 1, VEHICLES, 121],
-    [RECORD, 2, 1, QUEUE, 11],
-    [RECORD, 2, 2, VEHICLES, 166],
-    [CORRIDOR, 0, 0, L, 29],
-    [COST, 3, 0, LOW, 666],
-];
-
-fn place(i: usize) -> Change {
-    if i < 73 {
-        return changes::of(PLACES[i]);
-    }
-    changes::none()
-}
-
-// All four calls on the lists of B for two steps with two words changed.
-pub fn tried(first: Change, second: Change) {
-    let mut corridor = b::corridor();
-    let mut demands = b::demands_of_two();
-    let mut plan = b::plan_of_two();
-    let mut words = b::words_of_two();
-    let mut lent_record = [0u32; 38];
-    let mut lent_plan = [0u32; 12];
-    changes::apply_to_all(first, 3, &mut corridor, &mut demands, &mut plan, &mut words);
-    changes::apply_to_all(
-        second,
-        3,
-        &mut corridor,
-        &mut demands,
-        &mut plan,
-        &mut words,
-    );
-    changes::say_both(first, second);
-    calls::all(
-        &corridor,
-        &demands,
-        &plan,
-        &words,
-        &mut lent_record,
-        &mut lent_plan,
-    );
-}
-
-fn with_one_change() {
-    for i in 0..73 {
-        tried(place(i), changes::none());
-    }
-}
-
-// 12 at its last place, with the record's queue as the arrivals make it; then 13 by the high word.
-fn last_queue_and_cost() {
-    let arrivals = changes::of([DEMANDS, 1, 1, Q, 201]);
-    let queue = changes::of([RECORD, 2, 1, QUEUE, 201]);
-    let high = changes::of([COST, 3, 0, HIGH, 1]);
-    tried(arrivals, queue);
-    tried(high, changes::none());
-}
+// The last two are 12 at its last place, with the record's queue as the arrivals make it, and 13 by the high word.
+const PLACES: [u8; 2893] = *b"unchanged: all
+F of node 0 is 1: all c2=1
+V of node 0 is 1: all c3=1
+W of node 0 is 1: all c4=1
+J of node 0 is 1: all c5=1
+F of node 1 is 65537: all c11=65537
+V of node 1 is 0: all c12=0
+V of node 1 is 65537: all c12=65537
+W of node 1 is 0: all c13=0
+W of node 1 is 65537: all c13=65537
+J of node 1 is 0: all c14=0
+F of node 2 is 65537: all c20=65537
+V of node 2 is 65537: all c21=65537
+W of node 2 is 65537: all c22=65537
+J of node 2 is 65537: all c23=65537
+identifier of node 0 is 0: all c1=0
+identifier of node 0 is 30: all c1=30
+identifier of node 1 is 10: all c10=10
+identifier of node 2 is 10: all c19=10
+identifier of node 2 is 0: all c19=0
+C of node 0 is 65537: all c6=65537
+L of node 0 is 134217729: all c7=134217729
+C of node 1 is 65537: all c15=65537
+L of node 1 is 134217729: all c16=134217729
+C of node 2 is 1: all c24=1
+L of node 2 is 1: all c25=1
+start n of node 0 is 1: all c8=1
+start l of node 0 is 1001: all c9=1001
+start l of node 1 is 201: all c18=201
+start n of node 2 is 401: all c26=401
+start l of node 2 is 1: all c27=1
+Q of step 0, node 0 is 65537: all d1=65537
+b of step 0, node 0 is 1: all d2=1
+Q of step 1, node 1 is 65537: all d9=65537
+b of step 1, node 1 is 65537: all d10=65537
+Q of step 1, node 2 is 1: all d11=1
+b of step 1, node 2 is 1: all d12=1
+rate of step 0, node 0 is 101: all p0=101
+limit of step 0, node 0 is 1: all p1=1
+rate of step 1, node 1 is 61: all p8=61
+limit of step 1, node 1 is 32769: all p9=32769
+rate of step 1, node 2 is 1: all p10=1
+limit of step 1, node 2 is 32769: all p11=32769
+n of state 0, node 0 is 1: all r0=1
+l of state 0, node 0 is 1: all r1=1
+f of state 0, node 0 is 1: all r2=1
+n of state 0, node 1 is 199: all r4=199
+l of state 0, node 1 is 49: all r5=49
+n of state 0, node 2 is 199: all r8=199
+l of state 0, node 2 is 1: all r9=1
+n of state 1, node 0 is 1: all r12=1
+f of state 1, node 0 is 1: all r14=1
+r of state 1, node 2 is 1: all r23=1
+r of state 2, node 0 is 1: all r27=1
+f of state 2, node 1 is 1: all r30=1
+l of state 2, node 2 is 1: all r33=1
+f of state 2, node 2 is 1: all r34=1
+r of state 2, node 2 is 1: all r35=1
+f of state 0, node 1 is 101: all r6=101
+f of state 0, node 1 is 4294967295: all r6=4294967295
+f of state 1, node 1 is 61: all r18=61
+f of state 1, node 2 is 101: all r22=101
+r of state 0, node 0 is 101: all r3=101
+r of state 0, node 1 is 4294967295: all r7=4294967295
+r of state 1, node 1 is 56: all r19=56
+r of state 0, node 0 is 1: all r3=1
+r of state 1, node 1 is 21: all r19=21
+C of node 1 is 39: all c15=39
+l of state 1, node 0 is 31: all r13=31
+n of state 1, node 1 is 121: all r16=121
+n of state 1, node 1 is 119: all r16=119
+l of state 2, node 1 is 11: all r29=11
+n of state 2, node 2 is 166: all r32=166
+L of node 0 is 29: all c7=29
+low word of the cost is 666: all r36=666
+Q of step 1, node 1 is 201 and l of state 2, node 1 is 201: all d9=201 r29=201
+high word of the cost is 1: all r37=1";
 
 pub fn run() {
     say::heading(b"Refusals 2 to 13 at their first and last places, B for two steps");
-    tried(changes::none(), changes::none());
-    with_one_change();
-    last_queue_and_cost();
+    on_b::all(Lists::TwoSteps, &PLACES, 77);
 }

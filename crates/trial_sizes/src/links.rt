@@ -1,43 +1,32 @@
 // A corridor of 64 links and one step, refusals at its last places, and one of 65 links.
-use trial::calls;
-use trial::changes;
-use trial::changes::B;
-use trial::changes::CORRIDOR;
-use trial::changes::Change;
-use trial::changes::DEMANDS;
-use trial::changes::FLOW;
-use trial::changes::IDENTIFIER;
-use trial::changes::J;
-use trial::changes::PLAN;
-use trial::changes::Q;
-use trial::changes::RAMP;
-use trial::changes::RATE;
-use trial::changes::RECORD;
-use trial::changes::START_L;
-use trial::changes::VEHICLES;
 use trial::content;
+use trial::content::List;
+use trial::line;
 use trial::say;
+use trial_lists::run;
 
-const LAST_PLACES: [[u32; 5]; 11] = [
-    [0, 0, 0, 0, 0],
-    [CORRIDOR, 0, 64, J, 65537],
-    [CORRIDOR, 0, 64, IDENTIFIER, 1],
-    [CORRIDOR, 0, 64, START_L, 1],
-    [DEMANDS, 0, 64, B, 1],
-    [PLAN, 0, 64, RATE, 1],
-    [RECORD, 1, 64, RAMP, 1],
-    [RECORD, 0, 64, FLOW, 101],
-    [RECORD, 0, 63, RAMP, 41],
-    [RECORD, 1, 64, VEHICLES, 201],
-    [DEMANDS, 0, 63, Q, 191],
-];
+const LAST_PLACES: [u8; 414] = *b"unchanged: all
+J of node 64 is 65537: all c581=65537
+identifier of node 64 is 1: all c577=1
+start l of node 64 is 1: all c585=1
+b of step 0, node 64 is 1: all d130=1
+rate of step 0, node 64 is 1: all p128=1
+r of state 1, node 64 is 1: all r519=1
+f of state 0, node 64 is 101: all r258=101
+r of state 0, node 63 is 41: all r255=41
+n of state 1, node 64 is 201: all r516=201
+Q of step 0, node 63 is 191: all d127=191";
 
-fn last_place(i: usize) -> Change {
-    if i < 11 {
-        return changes::of(LAST_PLACES[i]);
-    }
-    changes::none()
-}
+// N, K, and what is fixed at node 0 and at the last node.
+const FIXED_64: [u8; 95] =
+    *b": fixed c0=64 c2=0 c3=0 c4=0 c5=0 c8=0 c582=0 c583=0 c585=0 d0=1 d2=0 d129=0 d130=0 p1=0 p128=0";
+
+const FIXED_65: [u8; 95] =
+    *b": fixed c0=65 c2=0 c3=0 c4=0 c5=0 c8=0 c591=0 c592=0 c594=0 d0=1 d2=0 d131=0 d132=0 p1=0 p130=0";
+
+const LENGTHS_64: [usize; 6] = [586, 131, 130, 522, 522, 130];
+
+const LENGTHS_65: [usize; 6] = [595, 133, 132, 530, 530, 132];
 
 // Identifiers from 1 on, for as many nodes as the list has.
 fn put_identifiers(list: &mut [u32]) {
@@ -46,75 +35,76 @@ fn put_identifiers(list: &mut [u32]) {
     }
 }
 
+// Only nodes of a corridor have identifiers.
+fn identify(list: &mut [u32], kind: u8) {
+    if kind == b'c' {
+        put_identifiers(list);
+    }
+}
+
+// A row for each node from a place on, then what is fixed.
+fn list(row: &[u32], from: usize, kind: u8, fixed: &[u8]) -> List {
+    let mut list = [0u32; 600];
+    content::repeat(&mut list, from, row);
+    identify(&mut list, kind);
+    line::change(&mut list, kind, fixed);
+    list
+}
+
 // Every link and every ramp like those of B's node 1.
-fn put_corridor(list: &mut [u32], links: u8) {
-    let first = [0, 0, 0, 0, 0, 60, 200, 0, 50];
+fn corridor(fixed: &[u8]) -> List {
     let row = [0, 100, 32768, 32768, 400, 60, 200, 200, 50];
-    let last = [0, 100, 32768, 32768, 400, 0, 0, 200, 0];
-    content::repeat(list, 1, &first);
-    content::repeat(list, 10, &row);
-    content::repeat(list, 1 + 9 * (links as usize), &last);
-    put_identifiers(list);
-    content::set(list, 0, links as u32);
+    list(&row, 1, b'c', fixed)
 }
 
 // One step: Q 10 and b 16,384 wherever they are not fixed.
-fn put_demands(list: &mut [u32], links: u8) {
-    let first = [10, 0];
+fn demands(fixed: &[u8]) -> List {
     let row = [10, 16384];
-    let last = [0];
-    content::repeat(list, 1, &first);
-    content::repeat(list, 3, &row);
-    content::repeat(list, 1 + 2 * (links as usize), &last);
-    content::set(list, 0, 1);
+    list(&row, 1, b'd', fixed)
 }
 
 // Rate 60 and full limits.
-fn put_plan(list: &mut [u32], links: u8) {
+fn plan(fixed: &[u8]) -> List {
     let row = [60, 32768];
-    content::repeat(list, 0, &row);
-    content::set(list, 1, 0);
-    content::set(list, 2 * (links as usize), 0);
+    list(&row, 0, b'p', fixed)
 }
 
-fn put_all(corridor: &mut [u32], demands: &mut [u32], plan: &mut [u32], links: u8) {
-    put_corridor(corridor, links);
-    put_demands(demands, links);
-    put_plan(plan, links);
-}
-
-// All four calls on 64 links with one word changed; the proposed record is the plan's.
-fn tried(change: Change) {
-    let mut corridor = [0u32; 586];
-    let mut demands = [0u32; 131];
-    let mut plan = [0u32; 130];
-    let mut words = [0u32; 522];
-    let mut lent_record = [0u32; 522];
-    let mut lent_plan = [0u32; 130];
-    put_all(&mut corridor, &mut demands, &mut plan, 64);
-    simulate::simulate(&corridor, &demands, &plan, &mut words);
-    changes::apply_to_all(
-        change,
-        65,
-        &mut corridor,
-        &mut demands,
-        &mut plan,
-        &mut words,
+// The plan's record.
+fn record(fixed: &[u8], lengths: [usize; 6]) -> List {
+    let of_corridor = corridor(fixed);
+    let of_demands = demands(fixed);
+    let of_plan = plan(fixed);
+    let mut words = [0u32; 600];
+    simulate::simulate(
+        content::part(&of_corridor, lengths[0]),
+        content::part(&of_demands, lengths[1]),
+        content::part(&of_plan, lengths[2]),
+        content::lent_part(&mut words, lengths[3]),
     );
-    changes::say_both(change, changes::none());
-    calls::all(
-        &corridor,
-        &demands,
-        &plan,
-        &words,
-        &mut lent_record,
-        &mut lent_plan,
+    words
+}
+
+fn changed(list: List, kind: u8, told: &[u8]) -> List {
+    let mut words = list;
+    line::change(&mut words, kind, told);
+    words
+}
+
+fn tried(case: &[u8], fixed: &[u8], lengths: [usize; 6]) {
+    let told = line::told(case);
+    run::case(
+        case,
+        changed(corridor(fixed), b'c', told),
+        changed(demands(fixed), b'd', told),
+        changed(plan(fixed), b'p', told),
+        changed(record(fixed, lengths), b'r', told),
+        lengths,
     );
 }
 
 fn last_places() {
     for i in 0..11 {
-        tried(last_place(i));
+        tried(line::of(&LAST_PLACES, i), &FIXED_64, LENGTHS_64);
     }
 }
 
@@ -130,39 +120,25 @@ fn say_rows(work: &[u32], normal: &[u32]) {
 }
 
 fn rows() {
-    let mut corridor = [0u32; 586];
-    let mut demands = [0u32; 131];
-    let mut plan = [0u32; 130];
+    let of_corridor = corridor(&FIXED_64);
+    let of_demands = demands(&FIXED_64);
+    let of_plan = plan(&FIXED_64);
     let mut work = [0u32; 522];
     let mut normal = [0u32; 130];
-    put_all(&mut corridor, &mut demands, &mut plan, 64);
-    convert::normal_form(&corridor, &demands, &plan, &mut work, &mut normal);
+    convert::normal_form(
+        content::part(&of_corridor, 586),
+        content::part(&of_demands, 131),
+        content::part(&of_plan, 130),
+        &mut work,
+        &mut normal,
+    );
     say_rows(&work, &normal);
 }
 
 // Every list has the length that N = 65 tells.
-fn one_link_more() {
-    let mut corridor = [0u32; 595];
-    let mut demands = [0u32; 133];
-    let mut plan = [0u32; 132];
-    let words = [0u32; 530];
-    let mut lent_record = [0u32; 530];
-    let mut lent_plan = [0u32; 132];
-    put_all(&mut corridor, &mut demands, &mut plan, 65);
-    say::text(b"N = 65:");
-    calls::all(
-        &corridor,
-        &demands,
-        &plan,
-        &words,
-        &mut lent_record,
-        &mut lent_plan,
-    );
-}
-
 pub fn run() {
     say::heading(b"64 links and one step");
     last_places();
     rows();
-    one_link_more();
+    tried(b"N = 65: all", &FIXED_65, LENGTHS_65);
 }

@@ -1,14 +1,14 @@
--- The loop ends: one word less is left after each turn.
+-- The loop ends: one turn less is left after each.
 use borrow.Author.Needs.{needs}
 use Prim.Native.Nat.{_-_}
 use Rattle.trial.proofs.say.words.Statement.{statement}
 use Rattle.trial.proofs.say.words.Tie as tie
 
 abbrev Inv-loop : tie.InvT-loop
-Inv-loop list width left₀ i₀ t5 i-end left i = Unit
+Inv-loop list width left₀ i₀ i-end left i = Unit
 
 abbrev μ-loop : tie.MeasureT-loop
-μ-loop list width left₀ i₀ t5 i-end left i = i-end - i
+μ-loop list width left₀ i₀ i-end left i = i-end - i
 
 pub words-spec : {M : Type 1} → statement M
 words-spec =
@@ -21,7 +21,6 @@ words-spec =
     (λ c. search needs)
     (λ c κs. search needs)
     (λ c κs. search needs)
-    (λ c. search needs)
     (λ c. search needs)
     (λ c. search needs)
     (λ c. search needs)

@@ -1,0 +1,28 @@
+-- The file keeps its length.
+use borrow.Author.Needs.{needs}
+use Prim.Native.Nat.{_-_}
+use mathlib.Core.Path.{_≡_}
+use lib.ListN.{length}
+use Rattle.trial_files.proofs.transfer.damage.Statement.{statement}
+use Rattle.trial_files.proofs.transfer.damage.Tie as tie
+
+abbrev Inv-loop : tie.InvT-loop
+Inv-loop file₀ told part₀ i₀ i-end file part i = length file ≡ length file₀
+
+abbrev μ-loop : tie.MeasureT-loop
+μ-loop file₀ told part₀ i₀ i-end file part i = i-end - i
+
+pub damage-spec : {M : Type 1} → statement M
+damage-spec =
+    tie.close
+    (tie.spec
+    Inv-loop
+    μ-loop
+    (λ c. search needs)
+    (λ c κs. search needs)
+    (λ c κs. search needs)
+    (λ c. search needs)
+    (λ c. search needs)
+    (λ c. search needs)
+    (λ c. search needs)
+    (λ c. search needs))
