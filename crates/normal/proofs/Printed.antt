@@ -1,5 +1,5 @@
--- How many bytes are printed: lines by index, one after another, are as long as their lengths in sum.
-use Prim.Native.Nat.{ℕ, zero, suc, _+_, _*_, _≤_}
+-- What is printed: lines by index, one after another, are as long as their lengths in sum; and the text of a long input.
+use Prim.Native.Nat.{ℕ, zero, suc, _+_, _*_, _<_, _≤_}
 use mathlib.Core.List.{List}
 use mathlib.Core.Path.{_≡_, refl, sym, ap, _∙_}
 use native.Mathlib.Omega.{arith}
@@ -11,6 +11,7 @@ use Rattle.tables.specs.Sum.{sum}
 use Rattle.tables.proofs.Sum.{Summed, summed-ended}
 use Rattle.normal.specs.Input.{linksIn, stepsIn, inputAnswer}
 use Rattle.normal.specs.Text.{headLine, refusedLine, planLine, linesOf, stepText, planText, textFor, printed}
+use Rattle.normal.proofs.Input.{input-long}
 
 -- a line that was put into a buffer is as long as the buffer's part with it
 pub counted : (r : ℕ) (out text : List ℕ) → take r out ≡ text → Counts r out → r ≡ length text
@@ -53,3 +54,8 @@ module _ (input : List ℕ) (answer : Answer) (told : answer ≡ inputAnswer inp
   pub refused-counted : (number row node : ℕ) → answer ≡ Refused number row node → r ≡ length (refusedLine number row node) → r ≡ length (printed input)
   unfolding printed
   refused-counted number row node e h = h ∙ ap (λ (a : Answer). length (textFor a input)) (sym e ∙ told)
+
+-- an input above 65,536 bytes is refused by 14
+pub long-printed : (text input : List ℕ) → text ≡ refusedLine 14 0 0 → 65536 < length input → text ≡ printed input
+unfolding printed
+long-printed text input e h = e ∙ ap (λ (a : Answer). textFor a input) (input-long input (Refused 14 0 0) refl h)

@@ -15,8 +15,7 @@ fn main() {
     let got = io::read_full(STDIN_FILENO, &mut room);
     if got == 65536 {
         if has_more() {
-            // The answer to every input above 65,536 bytes.
-            print::print_refused(14, 0, 0);
+            print::print_long();
             return;
         }
     }

@@ -2,7 +2,7 @@
 use mathlib.Core.Bool.{Bool, true, false, true≢false}
 use mathlib.Core.Path.{_≡_, refl, sym, ap, _∙_}
 use mathlib.Core.Logic.{_⊎_, inl, inr}
-use Prim.Native.Nat.{ℕ, _+_, _-_, _*_, _/_, _≤_, _<_}
+use Prim.Native.Nat.{ℕ, _+_, _-_, _*_, _≤_, _<_}
 use native.Mathlib.Nat.{mul-le-mul-right}
 use native.Mathlib.Omega.{arith}
 use borrow.Author.Tests.{leb-true, leb-false}
@@ -22,17 +22,6 @@ row-fits k m n h = omega (arith, mul-le-mul-right n h)
 -- a row of as many nodes is as wide
 pub width-same : (n p c : ℕ) → p ≡ n → n * c ≡ p * c
 width-same n p c e = ap (λ (k : ℕ). k * c) (sym e)
-
--- the middle of lo and hi, as a halving loop computes it, lies from lo on and below hi
-pub middle-low : (lo hi : ℕ) → lo ≤ lo + (hi - lo) / 2
-middle-low lo hi = omega arith
-
-pub middle-high : (lo hi : ℕ) → lo < hi → lo + (hi - lo) / 2 < hi
-middle-high lo hi h = omega arith
-
--- a test whose outcome a call answered
-pub told : (t u b : Bool) → t ≡ u → t ≡ b → u ≡ b
-told t u b e h = sym e ∙ h
 
 pub not-both : (t : Bool) → t ≡ true → t ≡ false → ⊥
 not-both t e f = true≢false (sym e ∙ f)

@@ -1,14 +1,13 @@
 -- The sets of laws that a proof hands to `search`.
 use borrow.Author.Needs.{needs}
 use borrow.Author.Tests.{lt-ltb, le-ltb, le-leb, lt-leb, eq-eqb, ne-eqb}
-use Rattle.tables.proofs.Numbers.{width-same, told, middle-low, middle-high}
+use Rattle.tables.proofs.Numbers.{width-same}
 use Rattle.tables.proofs.Answers.{refuses-is, refusal-none, refusal-some, refusal-same, left-refused, left-accepted}
 use Rattle.tables.proofs.First.{passed-begun, passed-next, passed-told, passed-stop, passed-ended, first-agrees}
 use Rattle.tables.proofs.Part.{part-length}
 use Rattle.tables.proofs.Tabulate.{filled-begun, filled-stored, filled-ended, filled-copied}
 use Rattle.tables.proofs.Grid.{cell-same, placed-begun, placed-two, placed-four, placed-ended, rowed-begun, rowed-lent, rowed-words, rowed-ended, rowed-grid}
 use Rattle.tables.proofs.Sum.{summed-begun, summed-more, summed-ended}
-use Rattle.tables.proofs.Least.{bracket-begun, bracket-up-to, bracket-past, bracket-ended}
 
 -- a contract by cases of `ltb`, `leb`, `eqb`: the tests that led to a return
 pub ruleset tests = (lt-ltb, le-ltb, le-leb, lt-leb, eq-eqb, ne-eqb)
@@ -30,6 +29,3 @@ pub ruleset grids = (placed-begun, placed-two, placed-four, placed-ended, rowed-
 
 -- all of these, and Rattle's own: what a proof tries at each need
 pub ruleset all = (tests, fills, scans, sums, keeps, grids, needs)
-
--- a loop that halves, with Rattle's own. Not in `all`: `middle-high` and `told` fit so much that the other searches break off
-pub ruleset halves = (bracket-begun, bracket-up-to, bracket-past, bracket-ended, middle-low, middle-high, told, needs)

@@ -1,7 +1,7 @@
 // The lines that the program prints, each put into a lent buffer of 128 bytes; the answer is the line's length.
 ghost use mathlib.Core.Path.{_≡_};
-ghost use mathlib.Core.List.{[], _∷_, _++_};
-ghost use Prim.Native.Nat.{_+_, _*_, _≤_, _<_};
+ghost use mathlib.Core.List.{List, [], _∷_, _++_};
+ghost use Prim.Native.Nat.{ℕ, _+_, _*_, _≤_, _<_};
 ghost use lib.ListN.{length, take};
 ghost use Rattle.io.specs.Counts.{Counts};
 ghost use Rattle.tables.specs.declared.Answer.the-variants.{Accepted};
@@ -13,7 +13,7 @@ ghost use Rattle.files.specs.Files.{corridorIn, demandsIn, recordIn};
 ghost use Rattle.files.specs.Fits.{Holds, FilesFit, Accepts};
 ghost use Rattle.normal.specs.Input.{linksIn, stepsIn, inputAnswer};
 ghost use Rattle.normal.specs.Fits.{statedCost};
-ghost use Rattle.normal.specs.Text.{decimal, spaced, planWord, refusedLine, headLine, settingLine, planLine};
+ghost use Rattle.normal.specs.Text.{decimal, spaced, planWord, refusedLine, headLine, settingLine, planLine, printed};
 use crate::inner::input;
 use crate::inner::text;
 use files::inner::unpacked;
@@ -33,6 +33,15 @@ pub fn refused_line(number: u32, row: u32, node: u32, out: &mut [u8]) -> usize
     let third = text::put_spaced(out, second, row as u64);
     let last = text::put_spaced(out, third, node as u64);
     text::put_byte(out, last, 10)
+}
+
+// The answer to every input above 65,536 bytes.
+pub fn long_line(out: &mut [u8]) -> usize
+    requires { ⌜ length (now out) ≡ 128 ⌝ }
+    ensures { λ r. ⌜ ((input : List ℕ) → 65536 < length input → take r (now (out .exit)) ≡ printed input) ⌝ }
+    ensures { λ r. ⌜ Counts r (now (out .exit)) ⌝ }
+{
+    refused_line(14, 0, 0, out)
 }
 
 // The cost that a record states in its two last words.

@@ -1,4 +1,5 @@
-// Prints the answer to an input, and the lines of an accepted one, on standard output. Each function answers how many bytes it gave to be written.
+// Prints the answer to an input, and the lines of an accepted one, on standard output. For an input, each function
+// answers how many bytes it gave to be written.
 ghost use mathlib.Core.Path.{_≡_};
 ghost use Prim.Native.Nat.{_+_, _<_, _≤_};
 ghost use lib.ListN.{length};
@@ -11,13 +12,20 @@ use libc::STDOUT_FILENO;
 use tables::Answer;
 
 // A refusal.
-pub fn print_refused(number: u32, row: u32, node: u32) -> usize
+fn print_refused(number: u32, row: u32, node: u32) -> usize
     ensures { λ r. ⌜ r ≡ length (refusedLine number row node) ⌝ }
 {
     let mut out = [0u8; 128];
     let n = lines::refused_line(number, row, node, &mut out);
     io::write_all(STDOUT_FILENO, &out[..n]);
     n
+}
+
+// The answer to an input above 65,536 bytes.
+pub fn print_long() {
+    let mut out = [0u8; 128];
+    let n = lines::long_line(&mut out);
+    io::write_all(STDOUT_FILENO, &out[..n]);
 }
 
 // The first line.

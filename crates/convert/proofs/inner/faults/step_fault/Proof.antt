@@ -2,6 +2,8 @@
 use native.Mathlib.Omega.{arith}
 use borrow.Author.Needs.{needs}
 use Rattle.road.specs.Step.{outflow}
+use Rattle.road.specs.Values.{junctionOf, flowsOf}
+use Rattle.settings.specs.Share.{Permitted}
 use Rattle.convert.proofs.Facts.{step-sent, step-fits, step-offered, step-moves, step-long, step-none}
 use Rattle.convert.proofs.Steps.{permitted-told, moved-asks, same-told}
 use Rattle.convert.proofs.Tests.{told-false, told-true}
@@ -27,54 +29,37 @@ returns-4 c =
     let sent = part .before in
     step-offered _ _ _ _ (omega (arith, sent .before .before .before .sending .ensures, sent .if1 .left)) (omega (arith, part .through .ensures, room .if2 .left)) (omega arith)
 
-moved-requires : tie.Need-moved-requires
-moved-requires c κs =
+-- 8, 9 and 10 passed
+permitted : (c : tie.Else4) → Permitted (junctionOf (c .before .before .before .before .before .before .before .before .before .before .before .before .before .before .before .args .junction)) (flowsOf (c .before .before .before .before .before .before .before .before .before .before .before .before .before .before .before .args .flows))
+permitted c =
     let queue = c .before .before .before in
     let room = queue .before .before .before in
     let part = room .before .before .before .before in
     let sent = part .before in
-    let k = sent .before .before .before .before in (
-      moved-asks (k .args .junction) (k .args .flows) (permitted-told (k .args .junction) (k .args .flows) _ _ (sent .before .before .before .sending .ensures) (sent .if1 .left) (part .through .ensures) (room .if2 .left) (queue .if3 .left) (c .if4 .left)) (k .pre .0 .1),
-      k .pre .1,
-    )
+    let k = sent .before .before .before .before in
+    permitted-told (k .args .junction) (k .args .flows) _ _ (sent .before .before .before .sending .ensures) (sent .if1 .left) (part .through .ensures) (room .if2 .left) (queue .if3 .left) (c .if4 .left)
+
+moved-requires : tie.Need-moved-requires
+moved-requires c κs =
+    let k = c .before .before .before .before .before .before .before .before .before .before .before .before .before .before .before in
+    (moved-asks (k .args .junction) (k .args .flows) (permitted c) (k .pre .0 .1), k .pre .1)
 
 returns-5 : tie.Need-returns-5
 returns-5 c =
-    let capacity = c .before .before .before in
-    let queue = capacity .before .before .before in
-    let room = queue .before .before .before in
-    let part = room .before .before .before .before in
-    let sent = part .before in
-    let k = sent .before .before .before .before in
-    step-moves _ _ _ _
-    (permitted-told (k .args .junction) (k .args .flows) _ _ (sent .before .before .before .sending .ensures) (sent .if1 .left) (part .through .ensures) (room .if2 .left) (queue .if3 .left) (capacity .if4 .left))
+    step-moves _ _ _ _ (permitted (c .before .before .before))
     (told-false _ _ (same-told _ _ _ _ (c .before .same-state .ensures) (c .before .before .moved .ensures)) (c .if5 .taken))
 
 returns-6 : tie.Need-returns-6
 returns-6 c =
     let same = c .before .before .before in
-    let capacity = same .before .before .before in
-    let queue = capacity .before .before .before in
-    let room = queue .before .before .before in
-    let part = room .before .before .before .before in
-    let sent = part .before in
-    let k = sent .before .before .before .before in
-    step-long _ _ _ _
-    (permitted-told (k .args .junction) (k .args .flows) _ _ (sent .before .before .before .sending .ensures) (sent .if1 .left) (part .through .ensures) (room .if2 .left) (queue .if3 .left) (capacity .if4 .left))
+    step-long _ _ _ _ (permitted (same .before .before .before))
     (told-true _ _ (same-told _ _ _ _ (same .before .same-state .ensures) (same .before .before .moved .ensures)) (same .if5 .left))
     (c .if6 .taken)
 
 returns-7 : tie.Need-returns-7
 returns-7 c =
     let same = c .before .before .before in
-    let capacity = same .before .before .before in
-    let queue = capacity .before .before .before in
-    let room = queue .before .before .before in
-    let part = room .before .before .before .before in
-    let sent = part .before in
-    let k = sent .before .before .before .before in
-    step-none _ _ _ _
-    (permitted-told (k .args .junction) (k .args .flows) _ _ (sent .before .before .before .sending .ensures) (sent .if1 .left) (part .through .ensures) (room .if2 .left) (queue .if3 .left) (capacity .if4 .left))
+    step-none _ _ _ _ (permitted (same .before .before .before))
     (told-true _ _ (same-told _ _ _ _ (same .before .same-state .ensures) (same .before .before .moved .ensures)) (same .if5 .left))
     (c .if6 .left)
 

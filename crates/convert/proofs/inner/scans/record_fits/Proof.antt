@@ -1,4 +1,5 @@
 -- By the length as a product, which is small.
+use Prim.Native.Nat.{_≤_}
 use native.Mathlib.Omega.{arith}
 use borrow.Author.Needs.{needs}
 use Rattle.lists.proofs.Sizes.{demands-fit}
@@ -10,29 +11,12 @@ use Rattle.convert.proofs.inner.scans.record_fits.Tie as tie
 returns : tie.Need-returns
 returns c = record-unsized _ _ _ _ (c .before .sizes .ensures) (c .if1 .taken)
 
-add-table-length : tie.Need-add-table-length
-add-table-length c =
+-- N and K are small
+few : (c : tie.After-steps-of) → (c .before .links-of .result ≤ 64) × (c .steps-of .result ≤ 1440)
+few c =
     let t = c .before .before in
     let q = demands-fit _ _ _ _ (told-true _ _ (t .before .sizes .ensures) (t .if1 .left)) (c .before .links-of .ensures) (c .steps-of .ensures) in
-    omega arith
-
-add-table-length-2 : tie.Need-add-table-length-2
-add-table-length-2 c =
-    let t = c .before .before in
-    let q = demands-fit _ _ _ _ (told-true _ _ (t .before .sizes .ensures) (t .if1 .left)) (c .before .links-of .ensures) (c .steps-of .ensures) in
-    omega arith
-
-mul-table-length : tie.Need-mul-table-length
-mul-table-length c =
-    let t = c .before .before in
-    let q = demands-fit _ _ _ _ (told-true _ _ (t .before .sizes .ensures) (t .if1 .left)) (c .before .links-of .ensures) (c .steps-of .ensures) in
-    omega arith
-
-table-length-requires : tie.Need-table-length-requires
-table-length-requires c κs =
-    let t = c .before .before in
-    let q = demands-fit _ _ _ _ (told-true _ _ (t .before .sizes .ensures) (t .if1 .left)) (c .before .links-of .ensures) (c .steps-of .ensures) in
-    (omega arith, omega arith)
+    (q .few, q .short)
 
 returns-2 : tie.Need-returns-2
 returns-2 c =
@@ -48,9 +32,9 @@ record-fits-spec =
     returns
     (λ c κs. search needs)
     (λ c κs. search needs)
-    add-table-length
-    add-table-length-2
-    mul-table-length
-    table-length-requires
+    (λ c. omega (arith, few c))
+    (λ c. omega (arith, few c))
+    (λ c. omega (arith, few c))
+    (λ c κs. (omega (arith, few c), omega (arith, few c)))
     (λ c. search needs)
     returns-2)
