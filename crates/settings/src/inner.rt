@@ -12,17 +12,17 @@ use road::Speed;
 use road::Units;
 
 // The flows at full speed.
-fn full_flows(junction: Junction, rate: u32) -> Flows
+fn full_flows(junction: Junction, rate: Units) -> Flows
     requires { ⌜ junction .split .0 ≤ 65536 ⌝ }
-    ensures { λ r. ⌜ flowsOf r ≡ fullFlows (junctionOf junction) rate ⌝ }
+    ensures { λ r. ⌜ flowsOf r ≡ fullFlows (junctionOf junction) (rate .0) ⌝ }
 {
-    road::inner::flows_with(junction, Units(rate), junction.link.full_speed)
+    road::inner::flows_with(junction, rate, junction.link.full_speed)
 }
 
 // Whether the rate is high enough: the mainline flow is down to the one wanted, and the ramp flow up to it.
-pub fn reaches(junction: Junction, wanted: Flows, rate: u32) -> bool
+pub fn reaches(junction: Junction, wanted: Flows, rate: Units) -> bool
     requires { ⌜ junction .split .0 ≤ 65536 ⌝ }
-    ensures { λ r. ⌜ r ≡ reaches (junctionOf junction) (flowsOf wanted) rate ⌝ }
+    ensures { λ r. ⌜ r ≡ reaches (junctionOf junction) (flowsOf wanted) (rate .0) ⌝ }
 {
     let x = full_flows(junction, rate);
     if x.main.0 <= wanted.main.0 {
@@ -33,9 +33,9 @@ pub fn reaches(junction: Junction, wanted: Flows, rate: u32) -> bool
 }
 
 // Whether the rate gives just the flows wanted.
-pub fn gives(junction: Junction, wanted: Flows, rate: u32) -> bool
+pub fn gives(junction: Junction, wanted: Flows, rate: Units) -> bool
     requires { ⌜ junction .split .0 ≤ 65536 ⌝ }
-    ensures { λ r. ⌜ r ≡ gives (junctionOf junction) (flowsOf wanted) rate ⌝ }
+    ensures { λ r. ⌜ r ≡ gives (junctionOf junction) (flowsOf wanted) (rate .0) ⌝ }
 {
     let x = full_flows(junction, rate);
     if x.main.0 == wanted.main.0 {
@@ -46,21 +46,21 @@ pub fn gives(junction: Junction, wanted: Flows, rate: u32) -> bool
 }
 
 // The one rate left when the rates 0 to C are halved.
-pub fn candidate(junction: Junction, wanted: Flows) -> u32
+pub fn candidate(junction: Junction, wanted: Flows) -> Units
     requires { ⌜ junction .split .0 ≤ 65536 ⌝ }
-    ensures { λ r. ⌜ r ≡ candidate (junctionOf junction) (flowsOf wanted) ⌝ }
+    ensures { λ r. ⌜ r .0 ≡ candidate (junctionOf junction) (flowsOf wanted) ⌝ }
 {
     let mut low: u32 = 0;
     let mut high = junction.ramp.capacity.0;
     while low < high {
         let middle = low + (high - low) / 2;
-        if reaches(junction, wanted, middle) {
+        if reaches(junction, wanted, Units(middle)) {
             high = middle;
         } else {
             low = middle + 1;
         }
     }
-    low
+    Units(low)
 }
 
 // The smallest rate of 0 to C that gives the flows wanted at full speed.
@@ -70,7 +70,7 @@ pub fn find_rate(junction: Junction, wanted: Flows) -> Found
 {
     let rate = candidate(junction, wanted);
     if gives(junction, wanted, rate) {
-        Found::Rate(Units(rate))
+        Found::Rate(rate)
     } else {
         Found::Nothing
     }
