@@ -11,10 +11,10 @@ use lib.Dec.{eqb, leb}
 use lib.ListN.{length, getD}
 use Rattle.tables.specs.declared.Answer.{Answer}
 use Rattle.tables.specs.declared.Answer.the-variants.{Accepted, Refused}
-use Rattle.tables.specs.Answer.{orElse}
+use Rattle.tables.specs.Answer.{orElse, sized}
 use Rattle.tables.proofs.Answers.{Refuses, orElse-accepts, orElse-refuses, left-refused, left-accepted}
 use Rattle.tables.proofs.Tests.{and-iff}
-use Rattle.lists.specs.Refusals.{within, sized}
+use Rattle.lists.specs.Refusals.{within}
 use Rattle.lists.proofs.Limits.{sized-iff}
 use Rattle.block.specs.declared.Kind.{Kind}
 use Rattle.block.specs.declared.Kind.the-variants.{Corridor, Demands, Record, Plan}

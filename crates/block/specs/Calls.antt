@@ -5,8 +5,8 @@ use Prim.Native.Nat.{ℕ, _*_}
 use lib.Dec.{eqb}
 use lib.ListN.{length, getD}
 use Rattle.tables.specs.declared.Answer.{Answer}
-use Rattle.tables.specs.Answer.{orElse, left}
-use Rattle.lists.specs.Refusals.{within, sized}
+use Rattle.tables.specs.Answer.{orElse, left, sized}
+use Rattle.lists.specs.Refusals.{within}
 use Rattle.block.specs.declared.Kind.{Kind}
 use Rattle.payload.specs.File.{blocksFor, payloadWord, payloadOf, fileOf}
 use Rattle.payload.specs.Reading.{payloadAnswer}

@@ -9,7 +9,7 @@ use lib.ListN.{length, getD, take, drop}
 use lib.Dec.{eqb}
 use Rattle.tables.specs.declared.Answer.{Answer}
 use Rattle.tables.specs.declared.Answer.the-variants.{Accepted, Refused}
-use Rattle.tables.specs.Answer.{orElse, refusal, unless, left}
+use Rattle.tables.specs.Answer.{orElse, refusal, unless, left, sized}
 use Rattle.tables.specs.Sum.{sum}
 use Rattle.tables.proofs.Answers.{orElse-accepts, left-refused}
 use Rattle.tables.proofs.Sum.{Summed, summed-ended, sum-same}
@@ -17,7 +17,7 @@ use Rattle.road.specs.Corridor.{NodeState}
 use Rattle.road.specs.Run.{cost}
 use Rattle.lists.specs.Words.{linksOf, stepsOf, roadOf, traceOf, traceLength, planLength, recordLength}
 use Rattle.lists.specs.Fits.{CorridorFits}
-use Rattle.lists.specs.Refusals.{sizes, sized, ranges}
+use Rattle.lists.specs.Refusals.{sizes, ranges}
 use Rattle.lists.proofs.Limits.{Sizes, sizes-iff, ranges-iff}
 use Rattle.lists.proofs.Scans.{or-else-stop, or-else-next}
 use Rattle.lists.proofs.Sizes.{corridor-fits, demands-fit}

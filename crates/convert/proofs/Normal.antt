@@ -8,11 +8,11 @@ use lib.Dec.{eqb}
 use lib.ListN.{length}
 use Rattle.tables.specs.declared.Answer.{Answer}
 use Rattle.tables.specs.declared.Answer.the-variants.{Accepted, Refused}
-use Rattle.tables.specs.Answer.{left}
+use Rattle.tables.specs.Answer.{left, sized}
 use Rattle.tables.proofs.Answers.{Refuses, orElse-accepts, orElse-refuses}
 use Rattle.tables.proofs.Tests.{and-iff}
 use Rattle.lists.specs.Words.{linksOf, stepsOf, roadOf, planOf, planLength, recordLength}
-use Rattle.lists.specs.Refusals.{sizes, sized, ranges, bounds}
+use Rattle.lists.specs.Refusals.{sizes, ranges, bounds}
 use Rattle.lists.proofs.Words.{record-length}
 use Rattle.simulate.specs.Simulate.{simulateSizes, simulateAnswer, simulated}
 use Rattle.simulate.proofs.Answers.{accepted-sizes}

@@ -5,13 +5,13 @@ use mathlib.Core.List.{List}
 use lib.ListN.{length}
 use lib.Dec.{eqb}
 use Rattle.tables.specs.declared.Answer.{Answer}
-use Rattle.tables.specs.Answer.{orElse}
+use Rattle.tables.specs.Answer.{orElse, sized}
 use Rattle.road.specs.Corridor.{Road, Plan, Trace}
 use Rattle.road.specs.Run.{junction}
 use Rattle.settings.specs.declared.Setting.{Setting}
 use Rattle.settings.specs.Setting.{settingFor, rateIn, limitIn}
 use Rattle.lists.specs.Words.{linksOf, stepsOf, roadOf, planOf, planWords, traceOf, planLength, recordLength}
-use Rattle.lists.specs.Refusals.{sizes, sized, ranges, bounds}
+use Rattle.lists.specs.Refusals.{sizes, ranges, bounds}
 use Rattle.simulate.specs.Simulate.{simulated}
 use Rattle.convert.specs.Refusals.{judged}
 

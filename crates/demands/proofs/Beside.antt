@@ -7,6 +7,7 @@ use native.Mathlib.Omega.{arith}
 use lib.ListN.{length}
 use lib.Dec.{leb, eqb}
 use borrow.Author.Tests.{eq-eqb, leb-false, lt-leb}
+use Rattle.tables.specs.Answer.{sized}
 use Rattle.tables.specs.declared.Answer.the-variants.{Accepted, Refused}
 use Rattle.tables.specs.First.{firstPlace}
 use Rattle.tables.proofs.Answers.{orElse-accepts, unless-some}
@@ -19,7 +20,7 @@ use Rattle.road.proofs.Same.{SameTraces, cost-same}
 use Rattle.road.proofs.Sizes.{run-state-fits, run-cost}
 use Rattle.settings.proofs.Settings.{named-once}
 use Rattle.lists.specs.Words.{linksOf, stepsOf, roadOf, planOf, planLength, traceOf, recordLength}
-use Rattle.lists.specs.Refusals.{sized, bounds, limits}
+use Rattle.lists.specs.Refusals.{bounds, limits}
 use Rattle.lists.proofs.Tests.{eq-holds}
 use Rattle.lists.proofs.Limits.{sized-iff, bounds-iff}
 use Rattle.lists.proofs.Words.{plan-same, plan-written, record-read}

@@ -8,7 +8,7 @@ use lib.ListN.{length}
 use lib.Dec.{eqb}
 use borrow.Author.Tests.{eq-eqb}
 use Rattle.tables.specs.declared.Answer.the-variants.{Accepted}
-use Rattle.tables.specs.Answer.{orElse}
+use Rattle.tables.specs.Answer.{orElse, sized}
 use Rattle.tables.proofs.Answers.{orElse-accepts}
 use Rattle.road.specs.Corridor.{Road}
 use Rattle.road.specs.Run.{junction, run}
@@ -16,7 +16,7 @@ use Rattle.road.specs.Limits.{Limits}
 use Rattle.settings.specs.Share.{Gives, IsSetting}
 use Rattle.settings.proofs.Settings.{full-speed-iff}
 use Rattle.lists.specs.Words.{linksOf, stepsOf, roadOf, planOf, planLength, traceOf, recordLength}
-use Rattle.lists.specs.Refusals.{sizes, sized, ranges, bounds, limits}
+use Rattle.lists.specs.Refusals.{sizes, ranges, bounds, limits}
 use Rattle.lists.proofs.Tests.{eq-holds}
 use Rattle.lists.proofs.Limits.{sized-iff, bounds-iff, limits-iff}
 use Rattle.lists.proofs.Words.{plan-length, record-length}

@@ -8,11 +8,11 @@ use lib.Dec.{eqb}
 use lib.ListN.{length}
 use Rattle.tables.specs.declared.Answer.{Answer}
 use Rattle.tables.specs.declared.Answer.the-variants.{Accepted, Refused}
-use Rattle.tables.specs.Answer.{orElse, left}
+use Rattle.tables.specs.Answer.{orElse, left, sized}
 use Rattle.tables.proofs.Answers.{orElse-accepts, left-refused, left-accepted}
 use Rattle.tables.proofs.Tests.{and-iff}
 use Rattle.lists.specs.Words.{roadOf, planLength}
-use Rattle.lists.specs.Refusals.{sized, ranges}
+use Rattle.lists.specs.Refusals.{ranges}
 use Rattle.lists.proofs.Scans.{or-else-stop, or-else-next}
 use Rattle.convert.specs.Refusals.{judged}
 use Rattle.convert.specs.Convert.{checkAnswer}

@@ -8,12 +8,12 @@ use lib.Dec.{eqb}
 use lib.ListN.{length}
 use Rattle.tables.specs.declared.Answer.{Answer}
 use Rattle.tables.specs.declared.Answer.the-variants.{Accepted, Refused}
-use Rattle.tables.specs.Answer.{orElse, left}
+use Rattle.tables.specs.Answer.{orElse, left, sized}
 use Rattle.tables.proofs.Answers.{orElse-assoc, orElse-accepts}
 use Rattle.tables.proofs.Grid.{grid-length}
 use Rattle.tables.proofs.Tests.{and-iff}
 use Rattle.lists.specs.Words.{linksOf, stepsOf, roadOf, planLength, recordLength, planWords}
-use Rattle.lists.specs.Refusals.{sizes, sized, ranges}
+use Rattle.lists.specs.Refusals.{sizes, ranges}
 use Rattle.lists.proofs.Limits.{sized-iff}
 use Rattle.convert.specs.Refusals.{judged}
 use Rattle.convert.specs.Convert.{converted, checkAnswer, convertAnswer}

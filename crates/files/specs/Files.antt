@@ -6,9 +6,8 @@ use Prim.Native.Nat.{ℕ, _*_}
 use lib.Dec.{eqb}
 use lib.ListN.{length}
 use Rattle.tables.specs.declared.Answer.{Answer}
-use Rattle.tables.specs.Answer.{orElse, left}
+use Rattle.tables.specs.Answer.{orElse, left, sized}
 use Rattle.lists.specs.Words.{corridorLength, demandsLength, planLength, recordLength}
-use Rattle.lists.specs.Refusals.{sized}
 use Rattle.convert.specs.Convert.{checkAnswer, converted}
 use Rattle.payload.specs.File.{blocksFor, payloadOf, fileOf}
 use Rattle.block.specs.declared.Kind.the-variants.{Corridor, Demands, Record, Plan}

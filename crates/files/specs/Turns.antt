@@ -8,9 +8,8 @@ use lib.Dec.{eqb}
 use lib.ListN.{length}
 use Rattle.tables.specs.declared.Answer.{Answer}
 use Rattle.tables.specs.declared.Answer.the-variants.{Accepted}
-use Rattle.tables.specs.Answer.{orElse}
+use Rattle.tables.specs.Answer.{orElse, sized}
 use Rattle.lists.specs.Words.{planLength}
-use Rattle.lists.specs.Refusals.{sized}
 use Rattle.convert.specs.Convert.{converted, checkAnswer, convertAnswer}
 use Rattle.payload.specs.File.{blocksFor}
 use Rattle.block.specs.declared.Kind.the-variants.{Corridor, Demands, Record, Plan}

@@ -8,7 +8,7 @@ use borrow.Author.Needs.{needs}
 use lib.Dec.{leb, eqb}
 use lib.ListN.{length, getD}
 use Rattle.tables.specs.declared.Answer.{Answer}
-use Rattle.tables.specs.Answer.{orElse, unless, hostNumber}
+use Rattle.tables.specs.Answer.{orElse, unless, hostNumber, sized}
 use Rattle.tables.specs.First.{firstPlace}
 use Rattle.tables.proofs.Answers.{Small, small-refusal, small-orElse, small-unless, orElse-assoc}
 use Rattle.tables.proofs.First.{small-node, small-place}
@@ -17,7 +17,7 @@ use Rattle.road.specs.Corridor.{Link, Ramp, NodeState, Node, Road, Plan, Flows,
 use Rattle.road.specs.Step.{Junction, sending, outflow}
 use Rattle.road.specs.Run.{junction, next, cost}
 use Rattle.lists.specs.Words.{linksOf, stepsOf, roadOf, planOf, traceOf, traceLength, planLength, recordLength}
-use Rattle.lists.specs.Refusals.{within, implies, sized, linkFault, fresh, rampFault, startFault, demandFault, planFault, linkRefusal, rampRefusal, startRefusal, demandRefusal, ranges, bounds, sizes}
+use Rattle.lists.specs.Refusals.{within, implies, linkFault, fresh, rampFault, startFault, demandFault, planFault, linkRefusal, rampRefusal, startRefusal, demandRefusal, ranges, bounds, sizes}
 use Rattle.lists.proofs.Limits.{sizes-iff}
 use Rattle.simulate.specs.Simulate.{simulateSizes, simulateAnswer, simulated}
 use Rattle.convert.specs.Convert.{checkAnswer, convertAnswer, normalRefusal, normalAnswer}

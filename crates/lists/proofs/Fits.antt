@@ -9,7 +9,7 @@ use Rattle.road.proofs.Sizes.{run-flows-fit, run-state-fits, run-cost}
 use Rattle.lists.specs.Words.{nodeWord, traceWord, recordWords}
 use Rattle.lists.proofs.Words.{record-each}
 
-module _ (road : Road) (limits : Limits road) (plan : Plan) where
+module _ (width : ℕ) (road : Road) (limits : Limits road) (plan : Plan) where
   -- n, l, f and r
   trace-word-fits : (k i q : ℕ) → k ≤ road .steps → i ≤ road .links → traceWord (run road plan) k i q < 4294967296
   unfolding nodeWord run
@@ -18,7 +18,7 @@ module _ (road : Road) (limits : Limits road) (plan : Plan) where
   trace-word-fits k i (suc (suc zero)) hk hi = omega (arith, run-flows-fit road limits plan k i hk hi .main)
   trace-word-fits k i (suc (suc (suc q))) hk hi = omega (arith, run-flows-fit road limits plan k i hk hi .ramp)
 
-  pub record-fits : (j : ℕ) → getD (recordWords road (run road plan)) j 0 < 4294967296
+  pub record-fits : (j : ℕ) → getD (recordWords width road (run road plan)) j 0 < 4294967296
   record-fits =
-      record-each road (run road plan) (λ word. word < 4294967296) (λ k i q hk hi hq. trace-word-fits k i q hk hi)
+      record-each width road (run road plan) (λ word. word < 4294967296) (λ k i q hk hi hq. trace-word-fits k i q hk hi)
       (omega arith) (omega (arith, run-cost road limits plan)) (omega arith)

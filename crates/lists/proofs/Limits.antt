@@ -9,7 +9,7 @@ use borrow.Author.Tests.{eq-eqb, ne-eqb}
 use lib.ListN.{length}
 use lib.Dec.{eqb}
 use Rattle.tables.specs.declared.Answer.the-variants.{Accepted}
-use Rattle.tables.specs.Answer.{orElse}
+use Rattle.tables.specs.Answer.{orElse, sized}
 use Rattle.tables.specs.Least.{least}
 use Rattle.tables.proofs.Numbers.{not-both}
 use Rattle.tables.proofs.Least.{least-below, least-is}
@@ -18,7 +18,7 @@ use Rattle.tables.proofs.First.{firstNode-accepts, firstPlace-accepts}
 use Rattle.road.specs.Corridor.{Link, Ramp, Node, Road, Plan, nodes}
 use Rattle.road.specs.Limits.{Within, LinkLimits, NoLink, RampLimits, NoRamp, StartLimits, Identified, DemandLimits, Limits, Bounds, Bounded}
 use Rattle.lists.specs.Words.{linksOf, stepsOf, roadOf, corridorLength, demandsLength}
-use Rattle.lists.specs.Refusals.{sizes, sized, linkFault, fresh, rampFault, startFault, demandFault, planFault, linkRefusal, rampRefusal, startRefusal, demandRefusal, ranges, bounds, limits}
+use Rattle.lists.specs.Refusals.{sizes, linkFault, fresh, rampFault, startFault, demandFault, planFault, linkRefusal, rampRefusal, startRefusal, demandRefusal, ranges, bounds, limits}
 use Rattle.lists.proofs.Tests.{le-holds, eq-holds, both-hold, implies-holds, within-holds, no-fault}
 
 -- ---- 1. N, K and the lengths of the two lists

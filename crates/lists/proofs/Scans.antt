@@ -1,22 +1,26 @@
 -- Laws of the scans, in the shape of what the code returns: the nodes of a corridor or a row, and the rows of a list.
 use Prim.Native.Nat.{ℕ, suc, _+_, _-_, _*_, _≤_, _<_}
-use mathlib.Core.Path.{_≡_, sym, ap, ap₂, _∙_}
+use mathlib.Core.Path.{_≡_, sym, ap, ap₂, subst, _∙_}
 use mathlib.Core.List.{List}
 use native.Mathlib.Nat.{zero-add}
 use native.Mathlib.Numerals.{add-one}
 use native.Mathlib.Omega.{arith}
 use lib.ListN.{getD, take, drop}
 use Rattle.tables.specs.declared.Answer.{Answer}
-use Rattle.tables.specs.declared.Answer.the-variants.{Accepted, Refused}
+use Rattle.tables.specs.declared.Answer.the-variants.{Accepted}
 use Rattle.tables.specs.Answer.{orElse, refusal}
 use Rattle.tables.specs.First.{first, firstNode, firstPlace}
 use Rattle.tables.specs.Grid.{place}
-use Rattle.tables.proofs.Answers.{Refuses, refuses-is, orElse-refuses, orElse-assoc}
-use Rattle.tables.proofs.First.{Passed, passed-stop, passed-ended, first-same}
+use Rattle.tables.proofs.Answers.{Refuses, orElse-assoc, or-else-stop, or-else-next}
+use Rattle.tables.proofs.First.{Passed, passed-stop, passed-ended, first-same, firstPlace-same}
 use Rattle.tables.proofs.Part.{part-at}
+use Rattle.road.specs.Corridor as Road
 use Rattle.lists.specs.Words.{linksOf, stepsOf, nodeAt, roadOf, planOf}
-use Rattle.lists.specs.Refusals.{demandFault, planFault, linkRefusal, rampRefusal, startRefusal, demandRefusal, ranges, bounds}
-use Rattle.lists.specs.Scans.{demandFaultAt, planFaultAt, demandFaultIn, planFaultIn, corridorRefusal}
+use Rattle.lists.specs.Refusals.{linkFault, startFault, demandFault, planFault, linkRefusal, rampRefusal, startRefusal, demandRefusal, ranges, bounds, planBounds}
+use Rattle.lists.specs.declared.inner.scans.NodeTest.{NodeTest}
+use Rattle.lists.specs.declared.inner.scans.NodeTest.the-variants.{Link, Ramp, Start, Demand, Plan}
+use Rattle.lists.specs.Fits.{RowFits, NodeIn}
+use Rattle.lists.specs.Scans.{nodeFault, nodeFaultIn, nodeFaultAt, RowFor, corridorRefusal, demandsRefusal, planRefusal}
 
 -- ---- nodes: the code counts them as links + 1
 
@@ -29,42 +33,62 @@ nodes-ended i links answer p h = passed-ended i (links + 1) answer p h ∙ ap (�
 
 -- ---- rows: row k of (links + 1) * 2 words, that begins `skip` words and k rows into the list, as the code lends it
 
-row-word : (l : List ℕ) (links skip k at i q : ℕ) → at ≡ skip + k * ((links + 1) * 2) → i < suc links → q < 2
-    → getD (take (at + (links + 1) * 2 - at) (drop at l)) (i * 2 + q) 0 ≡ getD l (skip + place 2 (suc links) k i q) 0
-row-word l links skip k at i q e h b =
-    let p : at + (i * 2 + q) ≡ skip + place 2 (suc links) k i q = omega arith in
-    part-at at ((links + 1) * 2) l (i * 2 + q) 0 (omega arith) ∙ ap (λ (j : ℕ). getD l j 0) p
+row-word : (l : List ℕ) (links skip k r i q : ℕ) → r ≡ k * ((links + 1) * 2) → i < suc links → q < 2
+    → getD (take (skip + r + (links + 1) * 2 - (skip + r)) (drop (skip + r) l)) (i * 2 + q) 0 ≡ getD l (skip + place 2 (suc links) k i q) 0
+row-word l links skip k r i q e h b =
+    let p : skip + r + (i * 2 + q) ≡ skip + place 2 (suc links) k i q = omega arith in
+    part-at (skip + r) ((links + 1) * 2) l (i * 2 + q) 0 (omega arith) ∙ ap (λ (j : ℕ). getD l j 0) p
 
--- one word, K, stands before the demands' rows; r is where row k begins after it
-pub demand-row-told : (demands : List ℕ) (links k r : ℕ) (a : Answer)
-    → a ≡ firstNode (suc links) k (demandFaultIn links (take (1 + r + (links + 1) * 2 - (1 + r)) (drop (1 + r) demands))) → r ≡ k * ((links + 1) * 2)
-    → a ≡ firstNode (suc links) k (demandFaultAt demands links k)
-demand-row-told demands links k r a e h =
-    let p : 1 + r ≡ 1 + k * ((links + 1) * 2) = omega arith in
+-- r is where row k begins after the words that are skipped
+pub row-told : (test : NodeTest) (corridor list : List ℕ) (links skip k r : ℕ) (a : Answer)
+    → a ≡ firstNode (suc links) k (nodeFaultIn test corridor links (take (skip + r + (links + 1) * 2 - (skip + r)) (drop (skip + r) list)))
+    → r ≡ k * ((links + 1) * 2) → a ≡ firstNode (suc links) k (nodeFaultAt test corridor links skip list k)
+row-told test corridor list links skip k r a e h =
     e
     ∙ first-same (suc links) _ _
     (λ i l. ap (λ (x : ℕ). refusal x k i)
-    (ap₂ (demandFault links i) (row-word demands links 1 k (1 + r) i 0 p l (omega arith)) (row-word demands links 1 k (1 + r) i 1 p l (omega arith))))
+    (ap₂ (nodeFault test corridor links i) (row-word list links skip k r i 0 h l (omega arith)) (row-word list links skip k r i 1 h l (omega arith))))
 
-pub plan-row-told : (corridor plan : List ℕ) (links k r : ℕ) (a : Answer)
-    → a ≡ firstNode (suc links) k (planFaultIn corridor (take (r + (links + 1) * 2 - r) (drop r plan))) → r ≡ k * ((links + 1) * 2)
-    → a ≡ firstNode (suc links) k (planFaultAt corridor plan links k)
-plan-row-told corridor plan links k r a e h =
-    let p : r ≡ 0 + k * ((links + 1) * 2) = omega arith in
-    let word : (i q : ℕ) → i < suc links → q < 2 → getD (take (r + (links + 1) * 2 - r) (drop r plan)) (i * 2 + q) 0 ≡ getD plan (place 2 (suc links) k i q) 0 =
-    λ i q l b. row-word plan links 0 k r i q p l b ∙ ap (λ (j : ℕ). getD plan j 0) (zero-add (place 2 (suc links) k i q)) in
-    e
-    ∙ first-same (suc links) _ _
-    (λ i l. ap (λ (x : ℕ). refusal x k i) (ap₂ (planFault (nodeAt corridor i .link) (nodeAt corridor i .ramp)) (word i 0 l (omega arith)) (word i 1 l (omega arith))))
+-- ---- what a test finds at a node: v is the number as the code has it
 
--- ---- one scan, then another: a is the first's answer, b the second's
+module _ (test : NodeTest) (corridor : List ℕ) (links i first second v : ℕ) where
+  pub link-found : (link : Road.Link) → test ≡ Link → link ≡ nodeAt corridor i .link → v ≡ linkFault i link → v ≡ nodeFault test corridor links i first second
+  unfolding nodeFault
+  link-found link t e h = h ∙ ap (linkFault i) e ∙ ap (λ (x : NodeTest). nodeFault x corridor links i first second) (sym t)
 
-pub or-else-stop : (a x y : Answer) (number row node : ℕ) → a ≡ x → a ≡ Refused number row node → a ≡ orElse x y
-or-else-stop a x y number row node e h =
-    sym (ap (λ (z : Answer). orElse z y) (sym e) ∙ orElse-refuses a y (refuses-is a number row node h))
+  pub ramp-found : test ≡ Ramp → v ≡ nodeFault Ramp corridor links i 0 0 → v ≡ nodeFault test corridor links i first second
+  unfolding nodeFault
+  ramp-found t h = h ∙ ap (λ (x : NodeTest). nodeFault x corridor links i first second) (sym t)
 
-pub or-else-next : (a b x y : Answer) → a ≡ x → a ≡ Accepted → b ≡ y → b ≡ orElse x y
-or-else-next a b x y e h q = q ∙ ap (λ (z : Answer). orElse z y) (sym h ∙ e)
+  pub start-found : test ≡ Start → v ≡ startFault (nodeAt corridor i) → v ≡ nodeFault test corridor links i first second
+  unfolding nodeFault
+  start-found t h = h ∙ ap (λ (x : NodeTest). nodeFault x corridor links i first second) (sym t)
+
+  pub demand-found : test ≡ Demand → v ≡ demandFault links i first second → v ≡ nodeFault test corridor links i first second
+  unfolding nodeFault
+  demand-found t h = h ∙ ap (λ (x : NodeTest). nodeFault x corridor links i first second) (sym t)
+
+  pub plan-found : test ≡ Plan → v ≡ planFault (nodeAt corridor i .link) (nodeAt corridor i .ramp) first second → v ≡ nodeFault test corridor links i first second
+  unfolding nodeFault
+  plan-found t h = h ∙ ap (λ (x : NodeTest). nodeFault x corridor links i first second) (sym t)
+
+-- the row that it reads has the node's words
+pub demand-read : (test : NodeTest) (row : List ℕ) (links i : ℕ) → RowFor test row links → i ≤ links → test ≡ Demand → NodeIn 2 row i
+unfolding RowFor
+demand-read test row links i r h e = let f : RowFits 2 row links = subst (λ (x : NodeTest). RowFor x row links) e r in omega arith
+
+pub plan-read : (test : NodeTest) (row : List ℕ) (links i : ℕ) → RowFor test row links → i ≤ links → test ≡ Plan → NodeIn 2 row i
+unfolding RowFor
+plan-read test row links i r h e = let f : RowFits 2 row links = subst (λ (x : NodeTest). RowFor x row links) e r in omega arith
+
+-- a row of two words a node serves every test
+pub row-for : (test : NodeTest) (row : List ℕ) (links : ℕ) → RowFits 2 row links → RowFor test row links
+unfolding RowFor
+row-for Link row links e = tt
+row-for Ramp row links e = tt
+row-for Start row links e = tt
+row-for Demand row links e = e
+row-for Plan row links e = e
 
 -- ---- the whole lists
 
@@ -72,27 +96,34 @@ four : (a b c d : Answer) → orElse (orElse a (orElse b c)) d ≡ orElse a (orE
 four a b c d = orElse-assoc a (orElse b c) d ∙ ap (orElse a) (orElse-assoc b c d)
 
 ranges-are : (corridor demands : List ℕ)
-    → orElse (corridorRefusal corridor (linksOf corridor)) (firstPlace (stepsOf demands) (suc (linksOf corridor)) (demandFaultAt demands (linksOf corridor)))
+    → orElse (corridorRefusal corridor (linksOf corridor)) (demandsRefusal corridor (linksOf corridor) (stepsOf demands) demands)
     ≡ ranges (roadOf corridor demands)
-unfolding corridorRefusal ranges linkRefusal rampRefusal startRefusal demandRefusal roadOf
+unfolding corridorRefusal nodeFault ranges linkRefusal rampRefusal startRefusal demandRefusal roadOf
 ranges-are corridor demands =
     let road = roadOf corridor demands in
     four (linkRefusal road) (rampRefusal road) (startRefusal road) (demandRefusal road)
 
-pub ranges-stop : (corridor demands : List ℕ) (links : ℕ) (a : Answer) (number row node : ℕ) → links ≡ linksOf corridor
-    → a ≡ corridorRefusal corridor links → a ≡ Refused number row node → a ≡ ranges (roadOf corridor demands)
-ranges-stop corridor demands links a number row node n e h =
-    or-else-stop a _ _ number row node (e ∙ ap (corridorRefusal corridor) n) h ∙ ranges-are corridor demands
+pub ranges-stop : (corridor demands : List ℕ) (links : ℕ) (a : Answer) → links ≡ linksOf corridor
+    → a ≡ corridorRefusal corridor links → Refuses a → a ≡ ranges (roadOf corridor demands)
+ranges-stop corridor demands links a n e h =
+    or-else-stop a _ _ (e ∙ ap (corridorRefusal corridor) n) h ∙ ranges-are corridor demands
 
 pub ranges-next : (corridor demands : List ℕ) (links steps : ℕ) (a b : Answer) → links ≡ linksOf corridor → steps ≡ stepsOf demands
-    → a ≡ corridorRefusal corridor links → a ≡ Accepted → b ≡ firstPlace steps (suc links) (demandFaultAt demands links)
+    → a ≡ corridorRefusal corridor links → a ≡ Accepted → b ≡ demandsRefusal corridor links steps demands
     → b ≡ ranges (roadOf corridor demands)
 ranges-next corridor demands links steps a b n k e h q =
     or-else-next a b _ _ (e ∙ ap (corridorRefusal corridor) n) h
-    (q ∙ ap₂ (λ (s l : ℕ). firstPlace s (suc l) (demandFaultAt demands l)) k n)
+    (q ∙ ap₂ (λ (s l : ℕ). demandsRefusal corridor l s demands) k n)
     ∙ ranges-are corridor demands
 
 pub bounds-are : (corridor demands plan : List ℕ) (links steps : ℕ) (a : Answer) → links ≡ linksOf corridor → steps ≡ stepsOf demands
-    → a ≡ firstPlace steps (suc links) (planFaultAt corridor plan links) → a ≡ bounds (roadOf corridor demands) (planOf (roadOf corridor demands) plan)
-unfolding bounds roadOf planOf
-bounds-are corridor demands plan links steps a n k e = e ∙ ap₂ (λ (s l : ℕ). firstPlace s (suc l) (planFaultAt corridor plan l)) k n
+    → a ≡ planRefusal corridor links steps plan → a ≡ planBounds corridor demands plan
+unfolding bounds nodeFault roadOf planOf
+bounds-are corridor demands plan links steps a n k e =
+    let road = roadOf corridor demands in
+    let word : (j i q : ℕ) → getD plan (0 + place 2 (suc (linksOf corridor)) j i q) 0 ≡ getD plan (place 2 (suc (linksOf corridor)) j i q) 0 =
+    λ j i q. ap (λ (x : ℕ). getD plan x 0) (zero-add (place 2 (suc (linksOf corridor)) j i q)) in
+    e
+    ∙ ap₂ (λ (s l : ℕ). planRefusal corridor l s plan) k n
+    ∙ firstPlace-same (stepsOf demands) (suc (linksOf corridor)) _ _
+    (λ j i hj hi. ap₂ (planFault (nodeAt corridor i .link) (nodeAt corridor i .ramp)) (word j i 0) (word j i 1))

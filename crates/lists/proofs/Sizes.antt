@@ -1,8 +1,9 @@
 -- What the test of all lengths gives: the facts that the functions on the lists ask for.
-use Prim.Native.Nat.{ℕ, _≤_}
+use Prim.Native.Nat.{ℕ, _+_, _≤_}
 use mathlib.Core.Bool.{Bool, true}
 use mathlib.Core.Path.{_≡_, sym, ap, ap₂, _∙_}
 use mathlib.Core.List.{List}
+use native.Mathlib.Nat.{zero-add}
 use native.Mathlib.Omega.{arith}
 use lib.ListN.{length}
 use Rattle.lists.specs.Words.{linksOf, stepsOf, corridorLength, demandsLength, planLength}
@@ -31,6 +32,11 @@ demands-fit corridor demands links steps e n k =
 pub steps-few : (corridor demands : List ℕ) (steps : ℕ) → sizes corridor demands ≡ true → steps ≡ stepsOf demands → steps ≤ 1440
 steps-few corridor demands steps e k = let s = sizes-iff corridor demands .0 e in omega (arith, s .steps)
 
+-- the length of a list whose rows begin after no word, and of one whose rows begin after one
 pub plan-words : (corridor demands plan : List ℕ) (links steps : ℕ) → length plan ≡ planLength (linksOf corridor) (stepsOf demands)
-    → links ≡ linksOf corridor → steps ≡ stepsOf demands → length plan ≡ planLength links steps
-plan-words corridor demands plan links steps e n k = e ∙ ap₂ planLength (sym n) (sym k)
+    → links ≡ linksOf corridor → steps ≡ stepsOf demands → length plan ≡ 0 + planLength links steps
+plan-words corridor demands plan links steps e n k = e ∙ ap₂ planLength (sym n) (sym k) ∙ sym (zero-add (planLength links steps))
+
+pub demand-words : (corridor demands : List ℕ) (links steps : ℕ) → sizes corridor demands ≡ true → links ≡ linksOf corridor → steps ≡ stepsOf demands
+    → length demands ≡ demandsLength links steps
+demand-words corridor demands links steps e n k = demands-fit corridor demands links steps e n k .words

@@ -14,7 +14,7 @@ use Rattle.road.specs.Corridor.{NodeState, Road, Plan, Flows, Trace, nodes}
 use Rattle.road.specs.Run.{cost}
 use Rattle.road.proofs.Rules.{flows-eq, state-eq}
 use Rattle.road.proofs.Same.{SameSetting, SamePlans, SamePlace, SameTraces, cost-same}
-use Rattle.lists.specs.Words.{planOf, planWord, planWords, planLength, traceOf, traceWord, nodeWord, traceWords, lowHigh, recordWords, traceLength, recordLength}
+use Rattle.lists.specs.Words.{planOf, planWord, planWords, planLength, Width, traceOf, traceWord, nodeWord, traceWords, lowHigh, recordWords, traceLength, recordLength}
 
 -- ---- a plan
 
@@ -60,100 +60,100 @@ plan-written road words fits = plan-is road (planOf road words) words fits (λ k
 
 -- ---- a record
 
-pub trace-length : (road : Road) (trace : Trace) → length (traceWords road trace) ≡ traceLength (road .links) (road .steps)
+pub trace-length : (width : ℕ) (road : Road) (trace : Trace) → length (traceWords width road trace) ≡ traceLength width (road .links) (road .steps)
 unfolding traceWords
-trace-length road trace = grid-length 4 (nodes road) (suc (road .steps)) (traceWord trace)
+trace-length width road trace = grid-length width (nodes road) (suc (road .steps)) (traceWord trace)
 
-pub record-length : (road : Road) (trace : Trace) → length (recordWords road trace) ≡ recordLength (road .links) (road .steps)
+pub record-length : (width : ℕ) (road : Road) (trace : Trace) → length (recordWords width road trace) ≡ recordLength width (road .links) (road .steps)
 unfolding recordWords
-record-length road trace = length-append (traceWords road trace) (lowHigh (cost road trace)) ∙ ap (λ (n : ℕ). n + 2) (trace-length road trace)
+record-length width road trace = length-append (traceWords width road trace) (lowHigh (cost road trace)) ∙ ap (λ (n : ℕ). n + 2) (trace-length width road trace)
 
 -- the two last words of a record are a cost as low and high 32 bits
-pub record CostWords (road : Road) (words : List ℕ) (total : ℕ) : Type 0 where
-  pub low : getD words (traceLength (road .links) (road .steps)) 0 ≡ total % 4294967296
-  pub high : getD words (traceLength (road .links) (road .steps) + 1) 0 ≡ total / 4294967296
+pub record CostWords (width : ℕ) (road : Road) (words : List ℕ) (total : ℕ) : Type 0 where
+  pub low : getD words (traceLength width (road .links) (road .steps)) 0 ≡ total % 4294967296
+  pub high : getD words (traceLength width (road .links) (road .steps) + 1) 0 ≡ total / 4294967296
 
-module _ (road : Road) (trace : Trace) where
-  at-cost : (q : ℕ) → getD (recordWords road trace) (traceLength (road .links) (road .steps) + q) 0 ≡ getD (lowHigh (cost road trace)) q 0
+module _ (width : ℕ) (road : Road) (trace : Trace) where
+  at-cost : (q : ℕ) → getD (recordWords width road trace) (traceLength width (road .links) (road .steps) + q) 0 ≡ getD (lowHigh (cost road trace)) q 0
   unfolding recordWords
   at-cost q =
-      ap (λ (n : ℕ). getD (recordWords road trace) (n + q) 0) (sym (trace-length road trace))
-      ∙ getD-append-add (traceWords road trace) (lowHigh (cost road trace)) q 0
+      ap (λ (n : ℕ). getD (recordWords width road trace) (n + q) 0) (sym (trace-length width road trace))
+      ∙ getD-append-add (traceWords width road trace) (lowHigh (cost road trace)) q 0
 
-  pub record-cost : CostWords road (recordWords road trace) (cost road trace)
+  pub record-cost : CostWords width road (recordWords width road trace) (cost road trace)
   record-cost =
       record {
-        low = ap (λ (n : ℕ). getD (recordWords road trace) n 0) (sym (add-zero (traceLength (road .links) (road .steps)))) ∙ at-cost 0;
+        low = ap (λ (n : ℕ). getD (recordWords width road trace) n 0) (sym (add-zero (traceLength width (road .links) (road .steps)))) ∙ at-cost 0;
         high = at-cost 1;
       }
 
-  pub record-at : (k i q : ℕ) → k ≤ road .steps → i ≤ road .links → q < 4 → getD (recordWords road trace) (place 4 (nodes road) k i q) 0 ≡ traceWord trace k i q
+  pub record-at : (k i q : ℕ) → k ≤ road .steps → i ≤ road .links → q < width → getD (recordWords width road trace) (place width (nodes road) k i q) 0 ≡ traceWord trace k i q
   unfolding recordWords traceWords
   record-at k i q hk hi hq =
       let m : ℕ = suc (road .steps) in
-      let inside : place 4 (nodes road) k i q < m * (nodes road * 4) = place-fits 4 (nodes road) m k i q (omega arith) (omega arith) hq in
-      List·getD-append (traceWords road trace) (lowHigh (cost road trace)) 0 _ (rw (trace-length road trace) inside)
-      ∙ grid-at 4 (nodes road) m (traceWord trace) k i q 0 (omega arith) (omega arith) hq
+      let inside : place width (nodes road) k i q < m * (nodes road * width) = place-fits width (nodes road) m k i q (omega arith) (omega arith) hq in
+      List·getD-append (traceWords width road trace) (lowHigh (cost road trace)) 0 _ (rw (trace-length width road trace) inside)
+      ∙ grid-at width (nodes road) m (traceWord trace) k i q 0 (omega arith) (omega arith) hq
 
   -- what is written is read back
-  pub record-read : SameTraces road (traceOf road (recordWords road trace)) trace
+  pub record-read : Width width → SameTraces road (traceOf width road (recordWords width road trace)) trace
   unfolding traceOf nodeWord
-  record-read k i hk hi =
+  record-read w k i hk hi =
       record {
         state = state-eq _ _ (record-at k i 0 hk hi (omega arith)) (record-at k i 1 hk hi (omega arith));
         flows = flows-eq _ _ (record-at k i 2 hk hi (omega arith)) (record-at k i 3 hk hi (omega arith));
       }
 
   -- what holds of the words of states 0..K, of the cost's two words and of 0 holds of each word
-  pub record-each : (P : ℕ → Type 0) → ((k i q : ℕ) → k ≤ road .steps → i ≤ road .links → q < 4 → P (traceWord trace k i q))
-      → P (cost road trace % 4294967296) → P (cost road trace / 4294967296) → P 0 → (j : ℕ) → P (getD (recordWords road trace) j 0)
+  pub record-each : (P : ℕ → Type 0) → ((k i q : ℕ) → k ≤ road .steps → i ≤ road .links → q < width → P (traceWord trace k i q))
+      → P (cost road trace % 4294967296) → P (cost road trace / 4294967296) → P 0 → (j : ℕ) → P (getD (recordWords width road trace) j 0)
   record-each P inside low high past j =
       ⊎-elim
-      (λ (g : traceLength (road .links) (road .steps) ≤ j). tail (j - traceLength (road .links) (road .steps)) (omega arith))
-      (λ (g : j < traceLength (road .links) (road .steps)).
-      each-place (λ j. P (getD (recordWords road trace) j 0)) 4 (nodes road) (suc (road .steps))
+      (λ (g : traceLength width (road .links) (road .steps) ≤ j). tail (j - traceLength width (road .links) (road .steps)) (omega arith))
+      (λ (g : j < traceLength width (road .links) (road .steps)).
+      each-place (λ j. P (getD (recordWords width road trace) j 0)) width (nodes road) (suc (road .steps))
       (λ k i q hk hi hq. subst P (sym (record-at k i q (omega arith) (omega arith) hq)) (inside k i q (omega arith) (omega arith) hq))
       j g)
-      (le-or-lt (traceLength (road .links) (road .steps)) j)
+      (le-or-lt (traceLength width (road .links) (road .steps)) j)
     where
       word : (q : ℕ) → P (getD (lowHigh (cost road trace)) q 0)
       word zero = low
       word (suc zero) = high
       word (suc (suc q)) = past
 
-      tail : (q : ℕ) → traceLength (road .links) (road .steps) + q ≡ j → P (getD (recordWords road trace) j 0)
-      tail q e = subst (λ (n : ℕ). P (getD (recordWords road trace) n 0)) e (subst P (sym (at-cost q)) (word q))
+      tail : (q : ℕ) → traceLength width (road .links) (road .steps) + q ≡ j → P (getD (recordWords width road trace) j 0)
+      tail q e = subst (λ (n : ℕ). P (getD (recordWords width road trace) n 0)) e (subst P (sym (at-cost q)) (word q))
 
 -- a list whose words are right is the trace's record
-pub record-is : (road : Road) (trace : Trace) (words : List ℕ) → length words ≡ recordLength (road .links) (road .steps)
-    → ((k i q : ℕ) → k ≤ road .steps → i ≤ road .links → q < 4 → getD words (place 4 (nodes road) k i q) 0 ≡ traceWord trace k i q)
-    → CostWords road words (cost road trace) → words ≡ recordWords road trace
-record-is road trace words fits right costs =
-    ext-getD 0 words (recordWords road trace) (fits ∙ sym (record-length road trace))
+pub record-is : (width : ℕ) (road : Road) (trace : Trace) (words : List ℕ) → length words ≡ recordLength width (road .links) (road .steps)
+    → ((k i q : ℕ) → k ≤ road .steps → i ≤ road .links → q < width → getD words (place width (nodes road) k i q) 0 ≡ traceWord trace k i q)
+    → CostWords width road words (cost road trace) → words ≡ recordWords width road trace
+record-is width road trace words fits right costs =
+    ext-getD 0 words (recordWords width road trace) (fits ∙ sym (record-length width road trace))
     (λ j h.
     ⊎-elim
-    (λ (g : traceLength (road .links) (road .steps) ≤ j).
+    (λ (g : traceLength width (road .links) (road .steps) ≤ j).
     ⊎-elim
-    (λ (b : j ≤ traceLength (road .links) (road .steps)).
-    let e : traceLength (road .links) (road .steps) ≡ j = omega arith in
-    subst (λ (n : ℕ). getD words n 0 ≡ getD (recordWords road trace) n 0) e (costs .low ∙ sym (record-cost road trace .low)))
-    (λ (b : traceLength (road .links) (road .steps) < j).
-    let e : traceLength (road .links) (road .steps) + 1 ≡ j = omega arith in
-    subst (λ (n : ℕ). getD words n 0 ≡ getD (recordWords road trace) n 0) e (costs .high ∙ sym (record-cost road trace .high)))
-    (le-or-lt j (traceLength (road .links) (road .steps))))
-    (λ (g : j < traceLength (road .links) (road .steps)).
-    each-place (λ j. getD words j 0 ≡ getD (recordWords road trace) j 0) 4 (nodes road) (suc (road .steps))
-    (λ k i q hk hi hq. right k i q (omega arith) (omega arith) hq ∙ sym (record-at road trace k i q (omega arith) (omega arith) hq))
+    (λ (b : j ≤ traceLength width (road .links) (road .steps)).
+    let e : traceLength width (road .links) (road .steps) ≡ j = omega arith in
+    subst (λ (n : ℕ). getD words n 0 ≡ getD (recordWords width road trace) n 0) e (costs .low ∙ sym (record-cost width road trace .low)))
+    (λ (b : traceLength width (road .links) (road .steps) < j).
+    let e : traceLength width (road .links) (road .steps) + 1 ≡ j = omega arith in
+    subst (λ (n : ℕ). getD words n 0 ≡ getD (recordWords width road trace) n 0) e (costs .high ∙ sym (record-cost width road trace .high)))
+    (le-or-lt j (traceLength width (road .links) (road .steps))))
+    (λ (g : j < traceLength width (road .links) (road .steps)).
+    each-place (λ j. getD words j 0 ≡ getD (recordWords width road trace) j 0) width (nodes road) (suc (road .steps))
+    (λ k i q hk hi hq. right k i q (omega arith) (omega arith) hq ∙ sym (record-at width road trace k i q (omega arith) (omega arith) hq))
     j g)
-    (le-or-lt (traceLength (road .links) (road .steps)) j))
+    (le-or-lt (traceLength width (road .links) (road .steps)) j))
 
 -- traces that agree have one record
-pub record-same : (road : Road) (trace other : Trace) → SameTraces road trace other → recordWords road trace ≡ recordWords road other
+pub record-same : (width : ℕ) (road : Road) (trace other : Trace) → SameTraces road trace other → recordWords width road trace ≡ recordWords width road other
 unfolding recordWords traceWords nodeWord
-record-same road trace other e =
+record-same width road trace other e =
     ap (λ (words : List ℕ). words ++ lowHigh (cost road trace))
-    (grid-same 4 (nodes road) (suc (road .steps)) (traceWord trace) (traceWord other) (λ k i q hk hi hq. word k i q (e k i (omega arith) (omega arith))))
-    ∙ ap (λ (total : ℕ). traceWords road other ++ lowHigh total) (cost-same road trace other e)
+    (grid-same width (nodes road) (suc (road .steps)) (traceWord trace) (traceWord other) (λ k i q hk hi hq. word k i q (e k i (omega arith) (omega arith))))
+    ∙ ap (λ (total : ℕ). traceWords width road other ++ lowHigh total) (cost-same road trace other e)
   where
     word : (k i q : ℕ) → SamePlace trace other k i → traceWord trace k i q ≡ traceWord other k i q
     word k i zero s = ap (λ (x : NodeState). x .vehicles) (s .state)
@@ -162,12 +162,12 @@ record-same road trace other e =
     word k i (suc (suc (suc q))) s = ap (λ (x : Flows). x .ramp) (s .flows)
 
 -- what is read is written back, where the length and the cost are right
-pub record-written : (road : Road) (words : List ℕ) → length words ≡ recordLength (road .links) (road .steps)
-    → CostWords road words (cost road (traceOf road words)) → words ≡ recordWords road (traceOf road words)
+pub record-written : (width : ℕ) (road : Road) (words : List ℕ) → Width width → length words ≡ recordLength width (road .links) (road .steps)
+    → CostWords width road words (cost road (traceOf width road words)) → words ≡ recordWords width road (traceOf width road words)
 unfolding traceOf nodeWord
-record-written road words fits costs = record-is road (traceOf road words) words fits (λ k i q hk hi hq. word k i q hq) costs
+record-written width road words w fits costs = record-is width road (traceOf width road words) words fits (λ k i q hk hi hq. word k i q hq) costs
   where
-    word : (k i q : ℕ) → q < 4 → getD words (place 4 (nodes road) k i q) 0 ≡ traceWord (traceOf road words) k i q
+    word : (k i q : ℕ) → q < width → getD words (place width (nodes road) k i q) 0 ≡ traceWord (traceOf width road words) k i q
     word k i zero h = refl
     word k i (suc zero) h = refl
     word k i (suc (suc zero)) h = refl

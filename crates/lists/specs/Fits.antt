@@ -1,6 +1,6 @@
 -- What the functions ask of the lists that they are lent: the test of all lengths gives the first three, the ranges of document 01 and the
 -- checks of a record the last.
-use Prim.Native.Nat.{ℕ, suc, _*_, _≤_}
+use Prim.Native.Nat.{ℕ, suc, _+_, _*_, _≤_}
 use mathlib.Core.Path.{_≡_}
 use mathlib.Core.List.{List}
 use lib.ListN.{length}
@@ -13,6 +13,10 @@ pub record CorridorFits (corridor : List ℕ) (links : ℕ) : Type 0 where
   pub few : links ≤ 64
   pub words : length corridor ≡ corridorLength links
 
+-- node i's words are in the corridor's list
+abbrev pub NodeFits : List ℕ → ℕ → Type 0
+NodeFits corridor i = 1 + (i * 9 + 9) ≤ length corridor
+
 -- the demands' list has the words that N and its K tell
 pub record DemandsFit (demands : List ℕ) (links steps : ℕ) : Type 0 where
   pub first : steps ≡ stepsOf demands
@@ -24,6 +28,10 @@ pub record DemandsFit (demands : List ℕ) (links steps : ℕ) : Type 0 where
 abbrev pub RowFits : ℕ → List ℕ → ℕ → Type 0
 RowFits width row links = length row ≡ suc links * width
 
+-- node i's words are in a row
+abbrev pub NodeIn : ℕ → List ℕ → ℕ → Type 0
+NodeIn width row i = i * width + width ≤ length row
+
 -- in a record's row no link holds more than its jam
-abbrev pub JamKept : List ℕ → List ℕ → ℕ → Type 0
-JamKept corridor row links = (i : ℕ) → i ≤ links → stateIn row i .vehicles ≤ nodeAt corridor i .link .jam
+abbrev pub JamKept : ℕ → List ℕ → List ℕ → ℕ → Type 0
+JamKept width corridor row links = (i : ℕ) → i ≤ links → stateIn width row i .vehicles ≤ nodeAt corridor i .link .jam

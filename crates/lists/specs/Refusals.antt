@@ -5,11 +5,11 @@ use mathlib.Core.List.{List}
 use lib.ListN.{length}
 use lib.Dec.{leb, eqb}
 use Rattle.tables.specs.declared.Answer.{Answer}
-use Rattle.tables.specs.Answer.{orElse, refusal, unless}
+use Rattle.tables.specs.Answer.{orElse, unless, sized}
 use Rattle.tables.specs.First.{firstNode, firstPlace}
 use Rattle.tables.specs.Least.{least}
 use Rattle.road.specs.Corridor.{Link, Ramp, Node, Road, Plan, nodes}
-use Rattle.lists.specs.Words.{linksOf, stepsOf, roadOf, corridorLength, demandsLength}
+use Rattle.lists.specs.Words.{linksOf, stepsOf, roadOf, planOf, corridorLength, demandsLength}
 
 abbrev pub within : ℕ → ℕ → ℕ → Bool
 within low high x = leb low x && leb x high
@@ -26,9 +26,6 @@ sizes corridor demands =
     && (within 1 1440 (stepsOf demands)
     && (eqb (length corridor) (corridorLength (linksOf corridor))
     && eqb (length demands) (demandsLength (linksOf corridor) (stepsOf demands))))
-
-abbrev pub sized : Bool → Answer
-sized fits = refusal (unless fits 1) 0 0
 
 -- ---- 2. F, V, W or J out of range, or not zero at node 0
 
@@ -100,6 +97,10 @@ ranges road = orElse (linkRefusal road) (orElse (rampRefusal road) (orElse (star
 unfoldable pub bounds : Road → Plan → Answer
 bounds road plan =
     firstPlace (road .steps) (nodes road) (λ k i. planFault (road .node i .link) (road .node i .ramp) (plan .rate k i) (plan .limit k i))
+
+-- 6, of a plan's list
+abbrev pub planBounds : List ℕ → List ℕ → List ℕ → Answer
+planBounds corridor demands plan = bounds (roadOf corridor demands) (planOf (roadOf corridor demands) plan)
 
 -- within limits: no refusal of 1 to 5 is due for the corridor and the demands
 unfoldable pub limits : List ℕ → List ℕ → Answer

@@ -1,4 +1,4 @@
--- The faults of a node and the refusals of the corridor in terms of the lists, for the functions that scan a corridor or one row.
+-- The refusals of the lists in terms of their words, for the functions that scan a corridor or the rows of a list.
 use Prim.Native.Nat.{ℕ, suc, _+_, _*_}
 use mathlib.Core.Bool.{Bool, _&&_}
 use mathlib.Core.List.{List}
@@ -6,10 +6,13 @@ use lib.ListN.{getD}
 use lib.Dec.{eqb}
 use Rattle.tables.specs.declared.Answer.{Answer}
 use Rattle.tables.specs.Answer.{orElse}
-use Rattle.tables.specs.First.{firstNode}
+use Rattle.tables.specs.First.{firstNode, firstPlace}
 use Rattle.tables.specs.Grid.{place}
-use Rattle.lists.specs.Words.{nodeAt, demandsWord, corridorLength, demandsLength}
+use Rattle.lists.specs.declared.inner.scans.NodeTest.{NodeTest}
+use Rattle.lists.specs.declared.inner.scans.NodeTest.the-variants.{Link, Ramp, Start, Demand, Plan}
+use Rattle.lists.specs.Words.{nodeAt, corridorLength, demandsLength}
 use Rattle.lists.specs.Refusals.{within, linkFault, fresh, rampFault, startFault, demandFault, planFault}
+use Rattle.lists.specs.Fits.{RowFits}
 
 -- 1, of numbers
 unfoldable pub lengthsFit : ℕ → ℕ → ℕ → ℕ → Bool
@@ -17,35 +20,43 @@ lengthsFit links steps corridor demands =
     within 1 64 links
     && (within 1 1440 steps && (eqb corridor (corridorLength links) && eqb demands (demandsLength links steps)))
 
--- of node i, in the corridor's words
-abbrev pub linkFaultAt : List ℕ → ℕ → ℕ
-linkFaultAt corridor i = linkFault i (nodeAt corridor i .link)
-
-abbrev pub rampFaultAt : List ℕ → ℕ → ℕ → ℕ
-rampFaultAt corridor links i =
+-- what a test finds at node i: 2, 3 or 4 in the corridor's words; 5 or 6 in the node's two words in a row of the demands or of a plan
+unfoldable pub nodeFault : NodeTest → List ℕ → ℕ → ℕ → ℕ → ℕ → ℕ
+nodeFault Link corridor links i first second = linkFault i (nodeAt corridor i .link)
+nodeFault Ramp corridor links i first second =
     rampFault (eqb i links) (nodeAt corridor i .identifier) (nodeAt corridor i .ramp) (fresh (λ j. nodeAt corridor j .identifier) i)
+nodeFault Start corridor links i first second = startFault (nodeAt corridor i)
+nodeFault Demand corridor links i first second = demandFault links i first second
+nodeFault Plan corridor links i first second = planFault (nodeAt corridor i .link) (nodeAt corridor i .ramp) first second
 
-abbrev pub startFaultAt : List ℕ → ℕ → ℕ
-startFaultAt corridor i = startFault (nodeAt corridor i)
+-- in one row
+abbrev pub nodeFaultIn : NodeTest → List ℕ → ℕ → List ℕ → ℕ → ℕ
+nodeFaultIn test corridor links row i = nodeFault test corridor links i (getD row (i * 2 + 0) 0) (getD row (i * 2 + 1) 0)
 
--- of node i at step k, in the words of the demands and of a plan
-abbrev pub demandFaultAt : List ℕ → ℕ → ℕ → ℕ → ℕ
-demandFaultAt demands links k i = demandFault links i (demandsWord demands links k i 0) (demandsWord demands links k i 1)
+-- in row k of a list whose rows begin after `skip` words
+abbrev pub nodeFaultAt : NodeTest → List ℕ → ℕ → ℕ → List ℕ → ℕ → ℕ → ℕ
+nodeFaultAt test corridor links skip list k i =
+    nodeFault test corridor links i (getD list (skip + place 2 (suc links) k i 0) 0) (getD list (skip + place 2 (suc links) k i 1) 0)
 
-abbrev pub planFaultAt : List ℕ → List ℕ → ℕ → ℕ → ℕ → ℕ
-planFaultAt corridor plan links k i =
-    planFault (nodeAt corridor i .link) (nodeAt corridor i .ramp) (getD plan (place 2 (suc links) k i 0) 0) (getD plan (place 2 (suc links) k i 1) 0)
+-- the row that a test reads; those of the corridor read none
+unfoldable pub RowFor : NodeTest → List ℕ → ℕ → Type 0
+RowFor Link row links = Unit {0}
+RowFor Ramp row links = Unit {0}
+RowFor Start row links = Unit {0}
+RowFor Demand row links = RowFits 2 row links
+RowFor Plan row links = RowFits 2 row links
 
--- of node i, in a step's row of the demands and of a plan
-abbrev pub demandFaultIn : ℕ → List ℕ → ℕ → ℕ
-demandFaultIn links row i = demandFault links i (getD row (i * 2 + 0) 0) (getD row (i * 2 + 1) 0)
+-- 2, 3 or 4 over the corridor's nodes, which ask nothing of a row
+abbrev pub corridorScan : NodeTest → List ℕ → ℕ → Answer
+corridorScan test corridor links = firstNode (suc links) 0 (λ i. nodeFault test corridor links i 0 0)
 
-abbrev pub planFaultIn : List ℕ → List ℕ → ℕ → ℕ
-planFaultIn corridor row i = planFault (nodeAt corridor i .link) (nodeAt corridor i .ramp) (getD row (i * 2 + 0) 0) (getD row (i * 2 + 1) 0)
-
--- 2 to 4 over the corridor's nodes
+-- 2 to 4
 unfoldable pub corridorRefusal : List ℕ → ℕ → Answer
-corridorRefusal corridor links =
-    orElse (firstNode (suc links) 0 (linkFaultAt corridor))
-    (orElse (firstNode (suc links) 0 (rampFaultAt corridor links))
-    (firstNode (suc links) 0 (startFaultAt corridor)))
+corridorRefusal corridor links = orElse (corridorScan Link corridor links) (orElse (corridorScan Ramp corridor links) (corridorScan Start corridor links))
+
+-- 5 over the demands' rows, and 6 over a plan's
+abbrev pub demandsRefusal : List ℕ → ℕ → ℕ → List ℕ → Answer
+demandsRefusal corridor links steps demands = firstPlace steps (suc links) (nodeFaultAt Demand corridor links 1 demands)
+
+abbrev pub planRefusal : List ℕ → ℕ → ℕ → List ℕ → Answer
+planRefusal corridor links steps plan = firstPlace steps (suc links) (nodeFaultAt Plan corridor links 0 plan)

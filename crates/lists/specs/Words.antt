@@ -1,5 +1,5 @@
 -- The word lists of document 01: where each word stands, how long each list is, and what corridor, demands, plan and record the words say.
-use Prim.Native.Nat.{ℕ, zero, suc, _+_, _*_, _/_, _%_}
+use Prim.Native.Nat.{ℕ, zero, suc, _+_, _*_, _/_, _%_, _≤_}
 use mathlib.Core.List.{List, [], _∷_, _++_}
 use lib.ListN.{getD}
 use Rattle.tables.specs.Grid.{grid, place}
@@ -39,6 +39,10 @@ stepsOf demands = getD demands 0 0
 abbrev pub demandsWord : List ℕ → ℕ → ℕ → ℕ → ℕ → ℕ
 demandsWord demands links k i q = getD demands (1 + place 2 (suc links) k i q) 0
 
+-- traffic past link N is always free: as much may pass beyond it as any link sends
+abbrev pub free : ℕ
+free = 65536
+
 -- the corridor and the demands together
 unfoldable pub roadOf : List ℕ → List ℕ → Road
 roadOf corridor demands =
@@ -48,6 +52,7 @@ roadOf corridor demands =
       node = nodeAt corridor;
       arrivals = λ k i. demandsWord demands (linksOf corridor) k i 0;
       split = λ k i. demandsWord demands (linksOf corridor) k i 1;
+      downstream = λ k. free;
     }
 
 -- ---- Plan: by step and node: rate, limit
@@ -68,14 +73,23 @@ planWords road plan = grid 2 (nodes road) (road .steps) (planWord plan)
 
 -- ---- Record: by state 0..K and node: n, l, f, r; then the cost as low and high 32 bits
 
-unfoldable pub traceOf : Road → List ℕ → Trace
-traceOf road words =
+-- how many words a node has in a record; definitions and laws take it as `width`
+abbrev pub recordWidth : ℕ
+recordWidth = 4
+
+-- what laws use of it
+pub record Width (width : ℕ) : Type 0 where
+  pub least : 4 ≤ width
+  pub most : width ≤ 4
+
+unfoldable pub traceOf : ℕ → Road → List ℕ → Trace
+traceOf width road words =
     record {
-      state = λ k i. record { vehicles = getD words (place 4 (nodes road) k i 0) 0; queue = getD words (place 4 (nodes road) k i 1) 0 };
-      flows = λ k i. record { main = getD words (place 4 (nodes road) k i 2) 0; ramp = getD words (place 4 (nodes road) k i 3) 0 };
+      state = λ k i. record { vehicles = getD words (place width (nodes road) k i 0) 0; queue = getD words (place width (nodes road) k i 1) 0 };
+      flows = λ k i. record { main = getD words (place width (nodes road) k i 2) 0; ramp = getD words (place width (nodes road) k i 3) 0 };
     }
 
--- the four words of a node
+-- the words of a node
 unfoldable pub nodeWord : NodeState → Flows → ℕ → ℕ
 nodeWord state flows zero = state .vehicles
 nodeWord state flows (suc zero) = state .queue
@@ -85,14 +99,14 @@ nodeWord state flows (suc (suc (suc q))) = flows .ramp
 abbrev pub traceWord : Trace → ℕ → ℕ → ℕ → ℕ
 traceWord trace k i = nodeWord (trace .state k i) (trace .flows k i)
 
-unfoldable pub traceWords : Road → Trace → List ℕ
-traceWords road trace = grid 4 (nodes road) (suc (road .steps)) (traceWord trace)
+unfoldable pub traceWords : ℕ → Road → Trace → List ℕ
+traceWords width road trace = grid width (nodes road) (suc (road .steps)) (traceWord trace)
 
 abbrev pub lowHigh : ℕ → List ℕ
 lowHigh n = n % 4294967296 ∷ n / 4294967296 ∷ []
 
-unfoldable pub recordWords : Road → Trace → List ℕ
-recordWords road trace = traceWords road trace ++ lowHigh (cost road trace)
+unfoldable pub recordWords : ℕ → Road → Trace → List ℕ
+recordWords width road trace = traceWords width road trace ++ lowHigh (cost road trace)
 
 -- ---- lengths
 
@@ -106,8 +120,8 @@ abbrev pub planLength : ℕ → ℕ → ℕ
 planLength links steps = steps * (suc links * 2)
 
 -- the words of states 0..K
-abbrev pub traceLength : ℕ → ℕ → ℕ
-traceLength links steps = suc steps * (suc links * 4)
+abbrev pub traceLength : ℕ → ℕ → ℕ → ℕ
+traceLength width links steps = suc steps * (suc links * width)
 
-abbrev pub recordLength : ℕ → ℕ → ℕ
-recordLength links steps = traceLength links steps + 2
+abbrev pub recordLength : ℕ → ℕ → ℕ → ℕ
+recordLength width links steps = traceLength width links steps + 2

@@ -11,13 +11,13 @@ use lib.ListN.{length, getD, take, drop, length-drop}
 use lib.Seq.{take-all}
 use Rattle.tables.specs.declared.Answer.{Answer}
 use Rattle.tables.specs.declared.Answer.the-variants.{Accepted, Refused}
-use Rattle.tables.specs.Answer.{orElse}
+use Rattle.tables.specs.Answer.{orElse, sized}
 use Rattle.tables.proofs.Answers.{orElse-accepts, refusal-unless}
 use Rattle.tables.proofs.Tabulate.{tabulate-at}
 use Rattle.road.specs.Corridor.{Road}
 use Rattle.road.specs.Run.{cost}
 use Rattle.lists.specs.Words.{linksOf, stepsOf, roadOf, traceOf, corridorLength, demandsLength, traceLength, recordLength}
-use Rattle.lists.specs.Refusals.{within, sized}
+use Rattle.lists.specs.Refusals.{within}
 use Rattle.lists.proofs.Limits.{sized-iff}
 use Rattle.lists.proofs.Tests.{within-holds}
 use Rattle.convert.proofs.Facts.{judged-iff}

@@ -6,9 +6,9 @@ use mathlib.Core.Path.{_≡_}
 use lib.Dec.{leb, eqb}
 use lib.ListN.{length, take}
 use Rattle.tables.specs.declared.Answer.{Answer}
-use Rattle.tables.specs.Answer.{orElse}
+use Rattle.tables.specs.Answer.{orElse, sized}
 use Rattle.lists.specs.Words.{corridorLength, demandsLength, traceLength, recordLength}
-use Rattle.lists.specs.Refusals.{within, sized}
+use Rattle.lists.specs.Refusals.{within}
 use Rattle.payload.specs.File.{blocksFor, payloadWord}
 use Rattle.payload.specs.Reading.{tested}
 use Rattle.files.specs.Files.{readThenCheck}

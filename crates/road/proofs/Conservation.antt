@@ -6,7 +6,7 @@ use native.Mathlib.Omega.{arith}
 use Rattle.tables.specs.Sum.{sum}
 use Rattle.road.specs.Corridor.{NodeState, Road, Plan, Flows, nodes}
 use Rattle.road.specs.Step.{exit, outflow, moved}
-use Rattle.road.specs.Run.{junction, inflow, next, planFlows, stateAt}
+use Rattle.road.specs.Run.{junction, inflow, next, planFlows, stateAt, stateCost}
 use Rattle.road.specs.Limits.{Limits, Bounded}
 use Rattle.road.proofs.Rules.{sending-le, through-exit, flows-sent, flows-offered}
 use Rattle.road.proofs.Runs.{link-tops}
@@ -14,7 +14,7 @@ use Rattle.road.proofs.Zeros.{exit-ramp}
 
 -- all vehicles on links and ramps
 abbrev pub present : Road → (ℕ → NodeState) → ℕ
-present road state = sum (nodes road) (λ i. state i .vehicles + state i .queue)
+present road state = stateCost (nodes road) state
 
 abbrev pub arrived : Road → ℕ → ℕ
 arrived road k = sum (nodes road) (λ i. road .arrivals k i)

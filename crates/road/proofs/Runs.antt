@@ -7,7 +7,7 @@ use borrow.Author.Tests.{lt-ltb, le-ltb}
 use Rattle.tables.proofs.Numbers.{le-or-lt}
 use Rattle.road.specs.Corridor.{Link, NodeState, Road, Plan, Flows}
 use Rattle.road.specs.Step.{sending, offer, receiving, flowsWith, outflow, moved}
-use Rattle.road.specs.Run.{supply, junction, inflow, next, planFlows, stateAt, noFlow, run}
+use Rattle.road.specs.Run.{FreeBeyond, supply, junction, inflow, next, planFlows, stateAt, noFlow, run}
 use Rattle.road.specs.Limits.{Limits, JunctionLimits}
 use Rattle.road.proofs.Rules.{sending-capacity, through-le, offer-le, receiving-le, merge-free, flows-fit}
 
@@ -18,7 +18,7 @@ pub supply-inside : (road : Road) (k : ℕ) (state : ℕ → NodeState) (i : ℕ
 unfolding supply
 supply-inside road k state i h = simp (lt-ltb i (road .links) h)
 
-pub supply-last : (road : Road) (k : ℕ) (state : ℕ → NodeState) → supply road k state (road .links) ≡ 65536
+pub supply-last : (road : Road) (k : ℕ) (state : ℕ → NodeState) → supply road k state (road .links) ≡ road .downstream k
 unfolding supply
 supply-last road k state = simp (le-ltb (road .links) (road .links) (omega arith))
 
@@ -82,26 +82,26 @@ module _ (road : Road) (limits : Limits road) where
   pub exit-offers : (queue rate : ℕ) → offer (road .node (road .links) .ramp) queue rate ≡ 0
   exit-offers queue rate = omega (arith, offer-le (road .node (road .links) .ramp) queue rate, limits .exit .capacity)
 
-  -- what leaves node N always fits, so T(f) + r ≤ S asks nothing there
-  pub exit-fits : (k : ℕ) (state : ℕ → NodeState) (flows : Flows) → flows .ramp ≡ 0 → flows .main ≤ road .node (road .links) .link .capacity
+  -- where traffic past link N is free, what leaves node N always fits, so T(f) + r ≤ S asks nothing there
+  pub exit-fits : (k : ℕ) (state : ℕ → NodeState) (flows : Flows) → FreeBeyond road k → flows .ramp ≡ 0 → flows .main ≤ road .node (road .links) .link .capacity
       → outflow flows (road .split k (road .links)) ≤ supply road k state (road .links)
   unfolding outflow
-  exit-fits k state flows ramp main =
+  exit-fits k state flows free ramp main =
       let n = road .links in
       omega (arith, supply-last road k state, through-le (flows .main) (road .split k n), link-tops n (omega arith) .capacity)
 
-  -- rule 5 at node N: f = D, r = d
-  pub exit-free : (k : ℕ) (state : ℕ → NodeState) (rate limit : ℕ)
+  -- rule 5 at node N where traffic past link N is free: f = D, r = d
+  pub exit-free : (k : ℕ) (state : ℕ → NodeState) (rate limit : ℕ) → FreeBeyond road k
       → flowsWith (junction road k state (road .links)) rate limit
       ≡ record {
         main = sending (road .node (road .links) .link) (state (road .links) .vehicles) limit;
         ramp = offer (road .node (road .links) .ramp) (state (road .links) .queue) rate;
       }
   unfolding flowsWith junction
-  exit-free k state rate limit =
+  exit-free k state rate limit free =
       let n = road .links in
       merge-free _ _ (road .split k n) (supply road k state n) _ refl refl
-      (exit-fits k state _ (exit-offers (state n .queue) rate) (sending-capacity (road .node n .link) (state n .vehicles) limit))
+      (exit-fits k state _ free (exit-offers (state n .queue) rate) (sending-capacity (road .node n .link) (state n .vehicles) limit))
 
   -- where what each node passes on fits, vehicles that are within 0..J stay so
   pub next-jam : (k : ℕ) (state : ℕ → NodeState) (flows : ℕ → Flows)

@@ -1,15 +1,20 @@
 -- A run of a plan: rule 6 over all nodes, state k, the record's trace and its total cost.
 use Prim.Native.Nat.{ℕ, zero, suc, _+_}
+use mathlib.Core.Path.{_≡_}
 use mathlib.Core.Bool.{cond}
 use lib.Dec.{ltb}
 use Rattle.tables.specs.Sum.{sum}
 use Rattle.road.specs.Corridor.{NodeState, Road, Plan, Flows, Trace, nodes}
 use Rattle.road.specs.Step.{Junction, receiving, flowsWith, outflow, moved}
 
--- S, what node i's merge may pass on in step k: the receiving of link i + 1; past link N traffic is free, and 65,536 is as much as any link sends
+-- S, what node i's merge may pass on in step k: the receiving of link i + 1, and at node N what may pass beyond link N
 unfoldable pub supply : Road → ℕ → (ℕ → NodeState) → ℕ → ℕ
 supply road k state i =
-    cond (ltb i (road .links)) (receiving (road .node (suc i) .link) (state (suc i) .vehicles)) 65536
+    cond (ltb i (road .links)) (receiving (road .node (suc i) .link) (state (suc i) .vehicles)) (road .downstream k)
+
+-- past link N traffic is free in step k: 65,536 is as much as any link sends
+abbrev pub FreeBeyond : Road → ℕ → Type 0
+FreeBeyond road k = road .downstream k ≡ 65536
 
 -- node i at step k
 unfoldable pub junction : Road → ℕ → (ℕ → NodeState) → ℕ → Junction
@@ -51,7 +56,10 @@ run road plan =
       flows = λ k i. cond (ltb k (road .steps)) (planFlows road plan k (stateAt road plan k) i) noFlow;
     }
 
+-- the n and l of a state, over its first `count` nodes
+abbrev pub stateCost : ℕ → (ℕ → NodeState) → ℕ
+stateCost count state = sum count (λ i. state i .vehicles + state i .queue)
+
 -- Total cost: the sum of all n and l over states 1..K
 unfoldable pub cost : Road → Trace → ℕ
-cost road trace =
-    sum (road .steps) (λ k. sum (nodes road) (λ i. trace .state (suc k) i .vehicles + trace .state (suc k) i .queue))
+cost road trace = sum (road .steps) (λ k. stateCost (nodes road) (trace .state (suc k)))

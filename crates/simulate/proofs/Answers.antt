@@ -8,11 +8,11 @@ use borrow.Author.Tests.{eq-eqb, ne-eqb}
 use lib.Dec.{eqb}
 use lib.ListN.{length}
 use Rattle.tables.specs.declared.Answer.{Answer}
-use Rattle.tables.specs.declared.Answer.the-variants.{Accepted, Refused}
-use Rattle.tables.specs.Answer.{orElse}
-use Rattle.tables.proofs.Answers.{Refuses, orElse-accepts, orElse-refuses}
-use Rattle.lists.specs.Words.{linksOf, stepsOf, roadOf, planOf, planLength, recordLength}
-use Rattle.lists.specs.Refusals.{sizes, sized, ranges, bounds}
+use Rattle.tables.specs.declared.Answer.the-variants.{Accepted}
+use Rattle.tables.specs.Answer.{orElse, sized}
+use Rattle.tables.proofs.Answers.{Refuses, orElse-accepts, or-else-stop, or-else-next}
+use Rattle.lists.specs.Words.{linksOf, stepsOf, roadOf, planOf, recordWidth, planLength, recordLength}
+use Rattle.lists.specs.Refusals.{sizes, ranges, bounds, planBounds}
 use Rattle.lists.proofs.Tests.{both-hold, eq-holds}
 use Rattle.lists.proofs.Limits.{sizes-iff, sized-iff, ranges-iff, bounds-iff}
 use Rattle.simulate.specs.Simulate.{simulateSizes, simulateAnswer, Sound}
@@ -23,6 +23,10 @@ pub few : (corridor demands : List ℕ) (links steps : ℕ) (t : Bool) → t ≡
 few corridor demands links steps t e h n k =
     let s = sizes-iff corridor demands .0 (sym e ∙ h) in
     (omega (arith, s .links), omega (arith, s .steps))
+
+-- the record's length, with the width as the code has it
+pub record-words : (links steps width m : ℕ) → m ≡ recordLength width links steps → width ≡ recordWidth → m ≡ recordLength recordWidth links steps
+record-words links steps width m e w = e ∙ ap (λ (x : ℕ). recordLength x links steps) w
 
 -- ---- 1
 
@@ -40,23 +44,23 @@ module _ (corridor demands plan : List ℕ) (room : ℕ) where
         let f : eqb (length plan) (planLength (linksOf corridor) (stepsOf demands)) ≡ false = ne-eqb (length plan) (planLength (linksOf corridor) (stepsOf demands)) (λ g. d (g ∙ sym is)) in
         rw (q, f)
 
-    pub record-decides : (m r : ℕ) → m ≡ planLength links steps → length plan ≡ m → r ≡ recordLength links steps → eqb room r ≡ simulateSizes corridor demands plan room
+    pub record-decides : (m r : ℕ) → m ≡ planLength links steps → length plan ≡ m → r ≡ recordLength recordWidth links steps → eqb room r ≡ simulateSizes corridor demands plan room
     unfolding simulateSizes
     record-decides m r p d s =
         let q : sizes corridor demands ≡ true = sym e ∙ h in
         let f : eqb (length plan) (planLength (linksOf corridor) (stepsOf demands)) ≡ true = eq-eqb (length plan) (planLength (linksOf corridor) (stepsOf demands)) (d ∙ p ∙ ap₂ (λ (x y : ℕ). planLength x y) n k) in
-        rw (q, f) (ap (λ (x : ℕ). eqb room x) (s ∙ ap₂ (λ (x y : ℕ). recordLength x y) n k))
+        rw (q, f) (ap (λ (x : ℕ). eqb room x) (s ∙ ap₂ (λ (x y : ℕ). recordLength recordWidth x y) n k))
 
   pub record Lengths : Type 0 where
     pub listed : sizes corridor demands ≡ true
     pub planFits : length plan ≡ planLength (linksOf corridor) (stepsOf demands)
-    pub roomFits : room ≡ recordLength (linksOf corridor) (stepsOf demands)
+    pub roomFits : room ≡ recordLength recordWidth (linksOf corridor) (stepsOf demands)
 
   pub lengths : simulateSizes corridor demands plan room ≡ true → Lengths
   unfolding simulateSizes
   lengths e =
       let plan-test = eq-holds (length plan) (planLength (linksOf corridor) (stepsOf demands)) in
-      let room-test = eq-holds room (recordLength (linksOf corridor) (stepsOf demands)) in
+      let room-test = eq-holds room (recordLength recordWidth (linksOf corridor) (stepsOf demands)) in
       let all = both-hold (sizes corridor demands) _ (λ h. h, λ h. h) (both-hold _ _ plan-test room-test) .0 e in
       record { listed = all .0; planFits = all .1 .0; roomFits = all .1 .1 }
 
@@ -65,23 +69,23 @@ module _ (corridor demands plan : List ℕ) (room : ℕ) where
   abbrev rest : Answer
   rest = orElse (ranges (roadOf corridor demands)) (bounds (roadOf corridor demands) (planOf (roadOf corridor demands) plan))
 
-  pub answer-one : (t : Bool) → t ≡ simulateSizes corridor demands plan room → t ≡ false → Refused 1 0 0 ≡ simulateAnswer corridor demands plan room
-  unfolding simulateAnswer
-  answer-one t e h = let q : simulateSizes corridor demands plan room ≡ false = sym e ∙ h in rw q
+  -- f, a, b and d are what the calls answered
+  module _ (f : Bool) (s : f ≡ simulateSizes corridor demands plan room) (a : Answer) (e : a ≡ sized f) where
+    pub answer-lengths : a ≡ Accepted → Lengths
+    answer-lengths g = lengths (sym s ∙ sized-iff f .0 (sym e ∙ g))
 
-  module _ (t : Bool) (e : t ≡ simulateSizes corridor demands plan room) (h : t ≡ true) (a : Answer) (q : a ≡ ranges (roadOf corridor demands)) where
-    pub answer-ranges : Refuses a → a ≡ simulateAnswer corridor demands plan room
+    pub answer-one : Refuses a → a ≡ simulateAnswer corridor demands plan room
     unfolding simulateAnswer
-    answer-ranges r =
-        let s : simulateSizes corridor demands plan room ≡ true = sym e ∙ h in
-        rw (s, ← q) (sym (orElse-refuses a _ r))
+    answer-one r = or-else-stop a _ _ (e ∙ ap sized s) r
 
-    pub answer-bounds : (b : Answer) → a ≡ Accepted → b ≡ bounds (roadOf corridor demands) (planOf (roadOf corridor demands) plan) → b ≡ simulateAnswer corridor demands plan room
-    unfolding simulateAnswer
-    answer-bounds b g p =
-        let s : simulateSizes corridor demands plan room ≡ true = sym e ∙ h in
-        let n : ranges (roadOf corridor demands) ≡ Accepted = sym q ∙ g in
-        rw (s, n) p
+    module _ (g : a ≡ Accepted) (b : Answer) (q : b ≡ ranges (roadOf corridor demands)) where
+      pub answer-ranges : Refuses b → b ≡ simulateAnswer corridor demands plan room
+      unfolding simulateAnswer
+      answer-ranges r = or-else-next a b _ _ (e ∙ ap sized s) g (or-else-stop b _ _ q r)
+
+      pub answer-bounds : (d : Answer) → b ≡ Accepted → d ≡ planBounds corridor demands plan → d ≡ simulateAnswer corridor demands plan room
+      unfolding simulateAnswer
+      answer-bounds d h p = or-else-next a d _ _ (e ∙ ap sized s) g (or-else-next b d _ _ q h p)
 
   -- what an accepting answer says
   pub accepted-sizes : simulateAnswer corridor demands plan room ≡ Accepted → Lengths

@@ -16,11 +16,11 @@ use Rattle.tables.proofs.Sum.{sum-none, sum-more}
 use Rattle.road.specs.Corridor.{Flows}
 use Rattle.road.specs.Run.{stateAt, run, cost}
 use Rattle.road.proofs.Runs.{run-flows, run-last}
-use Rattle.lists.specs.Words.{linksOf, stepsOf, roadOf, planOf, nodeWord, traceWord, traceWords, lowHigh, recordWords, traceLength, recordLength}
+use Rattle.lists.specs.Words.{linksOf, stepsOf, free, roadOf, planOf, recordWidth, Width, nodeWord, traceWord, traceWords, lowHigh, recordWords, traceLength, recordLength}
 use Rattle.lists.specs.Fits.{CorridorFits, RowFits}
 use Rattle.lists.proofs.Words.{trace-length}
-use Rattle.simulate.specs.Rows.{rowOf, startRow, flowRow, nextRow, rowCost, StepKept}
-use Rattle.simulate.specs.Simulate.{Sound, stateRow, stepRow, stateCost, runCost, runWords, simulated}
+use Rattle.simulate.specs.Rows.{rowOf, startRow, flowRow, nextRow, rowCost, StepKept, RowsFit, Stepped}
+use Rattle.simulate.specs.Simulate.{Sound, stateRow, stepRow, ranCost, runCost, runWords, Ran, RanAll, simulated}
 use Rattle.simulate.proofs.Rows.{row-length}
 use Rattle.simulate.proofs.Steps.{StepRows, step-rows, flow-row-is, next-row-is, step-kept, state-cost-is, start-row-is}
 
@@ -30,8 +30,9 @@ pub record Inside (demands plan : List ℕ) (links at : ℕ) : Type 0 where
 
 -- ---- the corridor's start, as the code has it
 
-pub started : (corridor demands plan : List ℕ) (links : ℕ) (state : List ℕ) → links ≡ linksOf corridor → state ≡ startRow corridor links → state ≡ stateRow corridor demands plan 0
-started corridor demands plan links state n e = e ∙ ap (λ (x : ℕ). startRow corridor x) n ∙ start-row-is corridor demands plan
+pub started : (width : ℕ) (corridor demands plan : List ℕ) (links : ℕ) (state : List ℕ) → links ≡ linksOf corridor → state ≡ startRow width corridor links
+    → state ≡ stateRow width corridor demands plan 0
+started width corridor demands plan links state n e = e ∙ ap (λ (x : ℕ). startRow width corridor x) n ∙ start-row-is width corridor demands plan
 
 pub corridor-fits : (corridor demands plan : List ℕ) (links : ℕ) → Sound corridor demands plan → links ≡ linksOf corridor → CorridorFits corridor links
 corridor-fits corridor demands plan links sound n = subst (λ (x : ℕ). CorridorFits corridor x) (sym n) (sound .corridorFits)
@@ -53,15 +54,15 @@ two-after g d m a b e h =
 
 -- ---- one step, as the code lends its rows; `at` is where row k of the plan starts, and 1 + at row k of the demands
 
-module _ (corridor demands plan : List ℕ) (k links at : ℕ) (sound : Sound corridor demands plan) (n : links ≡ linksOf corridor) (h : k < stepsOf demands) (e : at ≡ k * ((links + 1) * 2)) where
+module _ (width : ℕ) (wide : Width width) (corridor demands plan : List ℕ) (k links at : ℕ) (sound : Sound corridor demands plan) (n : links ≡ linksOf corridor) (h : k < stepsOf demands) (e : at ≡ k * ((links + 1) * 2)) where
   abbrev demandRow : List ℕ
   demandRow = take (1 + at + (links + 1) * 2 - (1 + at)) (drop (1 + at) demands)
 
   abbrev planRow : List ℕ
   planRow = take (at + (links + 1) * 2 - at) (drop at plan)
 
-  step-lent : StepRows corridor demands plan k demandRow planRow
-  step-lent = step-rows corridor demands plan k ((links + 1) * 2) (1 + at) at (omega arith) (omega arith) e
+  step-lent : StepRows width wide corridor demands plan k demandRow planRow
+  step-lent = step-rows width wide corridor demands plan k ((links + 1) * 2) (1 + at) at (omega arith) (omega arith) e
 
   within : at + (links + 1) * 2 ≤ stepsOf demands * (suc (linksOf corridor) * 2)
   within =
@@ -79,150 +80,172 @@ module _ (corridor demands plan : List ℕ) (k links at : ℕ) (sound : Sound co
   plan-row-fits : RowFits 2 planRow links
   plan-row-fits = part-length at ((links + 1) * 2) (length plan) plan (omega (arith, within, sound .planFits)) refl ∙ omega arith
 
-  module _ (state : List ℕ) (s : state ≡ stateRow corridor demands plan k) where
-    step-asks : (j : ℕ) → j ≤ links → StepKept corridor demandRow planRow state j
+  module _ (state : List ℕ) (s : state ≡ stateRow width corridor demands plan k) where
+    step-asks : (j : ℕ) → j ≤ links → StepKept width corridor demandRow planRow state j
     step-asks j l =
-        subst (λ (x : List ℕ). StepKept corridor demandRow planRow x j) (sym s)
-        (step-kept corridor demands plan k demandRow planRow step-lent (sound .limits) (sound .bounded) h j (omega arith))
+        subst (λ (x : List ℕ). StepKept width corridor demandRow planRow x j) (sym s)
+        (step-kept width wide corridor demands plan k demandRow planRow step-lent (sound .limits) (sound .bounded) h j (omega arith))
 
-    state-row-fits : RowFits 4 state links
+    state-row-fits : RowFits width state links
     unfolding stateRow
-    state-row-fits = ap length s ∙ row-length (linksOf corridor) _ _ ∙ omega arith
+    state-row-fits = ap length s ∙ row-length width (linksOf corridor) _ _ ∙ ap (λ (x : ℕ). suc x * width) (sym n)
 
-    pub step-asked : (row : List ℕ) → RowFits 4 row (linksOf corridor)
-        → (CorridorFits corridor links × RowFits 2 demandRow links × RowFits 2 planRow links × RowFits 4 state links)
-        × (((j : ℕ) → j ≤ links → StepKept corridor demandRow planRow state j) × RowFits 4 row links)
-    step-asked row r = (
-      (corridor-fits corridor demands plan links sound n, demand-row-fits, plan-row-fits, state-row-fits),
-      (step-asks, r ∙ omega arith),
-    )
+    pub rows-fit : RowsFit width corridor demandRow planRow state links
+    rows-fit =
+        record {
+          corridorFits = corridor-fits corridor demands plan links sound n;
+          demandFits = demand-row-fits;
+          planFits = plan-row-fits;
+          stateFits = state-row-fits;
+          wide = wide;
+          kept = step-asks;
+        }
 
     -- row, after and total are what the step gave
-    module _ (row after : List ℕ) (total : ℕ) (r : row ≡ flowRow corridor links demandRow planRow state) (a : after ≡ nextRow links demandRow row) (t : total ≡ rowCost links after) where
-      pub step-gives-row : row ≡ stepRow corridor demands plan k
-      step-gives-row =
-          r
-          ∙ ap (λ (x : ℕ). flowRow corridor x demandRow planRow state) n
-          ∙ ap (λ (x : List ℕ). flowRow corridor (linksOf corridor) demandRow planRow x) s
-          ∙ flow-row-is corridor demands plan k demandRow planRow step-lent
+    pub step-ran : (downstream : ℕ) → downstream ≡ free → (row after : List ℕ) (total : ℕ)
+        → Stepped width corridor links demandRow downstream planRow state row after total → Ran width corridor demands plan k row after total
+    unfolding roadOf
+    step-ran downstream d row after total g = record { written = written; moved = moved; adds = adds; low = g .low }
+      where
+        written : row ≡ stepRow width corridor demands plan k
+        written =
+            g .written
+            ∙ ap (λ (x : ℕ). flowRow width corridor x demandRow downstream planRow state) n
+            ∙ ap (λ (x : List ℕ). flowRow width corridor (linksOf corridor) demandRow downstream planRow x) s
+            ∙ flow-row-is width wide corridor demands plan k demandRow planRow step-lent downstream d
 
-      pub step-gives-state : after ≡ stateRow corridor demands plan (suc k)
-      step-gives-state =
-          a
-          ∙ ap (λ (x : ℕ). nextRow x demandRow row) n
-          ∙ ap (λ (x : List ℕ). nextRow (linksOf corridor) demandRow x) step-gives-row
-          ∙ next-row-is corridor demands plan k demandRow planRow step-lent
+        moved : after ≡ stateRow width corridor demands plan (suc k)
+        moved =
+            g .moved
+            ∙ ap (λ (x : ℕ). nextRow width x demandRow row) n
+            ∙ ap (λ (x : List ℕ). nextRow width (linksOf corridor) demandRow x) written
+            ∙ next-row-is width wide corridor demands plan k demandRow planRow step-lent
 
-      pub step-gives-cost : total ≡ stateCost corridor demands plan (suc k)
-      step-gives-cost =
-          t
-          ∙ ap (λ (x : ℕ). rowCost x after) n
-          ∙ ap (λ (x : List ℕ). rowCost (linksOf corridor) x) step-gives-state
-          ∙ state-cost-is corridor demands plan (suc k)
+        adds : total ≡ ranCost corridor demands plan (suc k)
+        adds =
+            g .adds
+            ∙ ap (λ (x : ℕ). rowCost width x after) n
+            ∙ ap (λ (x : List ℕ). rowCost width (linksOf corridor) x) moved
+            ∙ state-cost-is width wide corridor demands plan (suc k)
 
--- ---- the lengths of the record's rows, as the code has them
+-- the row lent for a step, as the code has N
+pub row-lent : (width : ℕ) (corridor row : List ℕ) (links : ℕ) → links ≡ linksOf corridor → RowFits width row (linksOf corridor) → RowFits width row links
+row-lent width corridor row links n e = e ∙ ap (λ (x : ℕ). suc x * width) (sym n)
 
-pub states-room : (corridor demands : List ℕ) (links steps : ℕ) (d : List ℕ) → links ≡ linksOf corridor → steps ≡ stepsOf demands
-    → length d ≡ traceLength (linksOf corridor) (stepsOf demands) → length d ≡ (steps + 1) * ((links + 1) * 4)
-states-room corridor demands links steps d n k e =
-    let w : suc (linksOf corridor) * 4 ≡ (links + 1) * 4 = omega arith in
+-- ---- the lengths of the record's rows, as the code has them: w is how many words one has
+
+pub states-room : (width : ℕ) (corridor demands : List ℕ) (links steps w : ℕ) (d : List ℕ) → links ≡ linksOf corridor → steps ≡ stepsOf demands → w ≡ suc links * width
+    → length d ≡ traceLength width (linksOf corridor) (stepsOf demands) → length d ≡ (steps + 1) * w
+states-room width corridor demands links steps w d n k q e =
     let m : suc (stepsOf demands) ≡ steps + 1 = omega arith in
-    e ∙ ap (λ (x : ℕ). suc (stepsOf demands) * x) w ∙ ap (λ (x : ℕ). x * ((links + 1) * 4)) m
+    let v : suc (linksOf corridor) * width ≡ w = ap (λ (x : ℕ). suc x * width) (sym n) ∙ sym q in
+    e ∙ ap (λ (x : ℕ). suc (stepsOf demands) * x) v ∙ ap (λ (x : ℕ). x * w) m
 
-pub part-fits : (corridor : List ℕ) (links at m : ℕ) (l : List ℕ) → links ≡ linksOf corridor → at + (links + 1) * 4 ≤ m → length l ≡ m
-    → RowFits 4 (take (at + (links + 1) * 4 - at) (drop at l)) (linksOf corridor)
-part-fits corridor links at m l n h e = part-length at ((links + 1) * 4) m l h e ∙ omega arith
+pub part-fits : (width : ℕ) (corridor : List ℕ) (links w at m : ℕ) (l : List ℕ) → links ≡ linksOf corridor → w ≡ suc links * width → at + w ≤ m → length l ≡ m
+    → RowFits width (take (at + w - at) (drop at l)) (linksOf corridor)
+part-fits width corridor links w at m l n q h e = part-length at w m l h e ∙ q ∙ ap (λ (x : ℕ). suc x * width) n
+
+pub row-wide : (width : ℕ) (corridor : List ℕ) (links w : ℕ) → links ≡ linksOf corridor → w ≡ suc links * width → w ≡ suc (linksOf corridor) * width
+row-wide width corridor links w n q = q ∙ ap (λ (x : ℕ). suc x * width) n
 
 -- ---- as a loop's invariant: the state is state k, and the total its cost so far
 
-pub record RanTo (corridor demands plan : List ℕ) (k : ℕ) (state : List ℕ) (total : ℕ) : Type 0 where
+pub record RanTo (width : ℕ) (corridor demands plan : List ℕ) (k : ℕ) (state : List ℕ) (total : ℕ) : Type 0 where
   pub bound : k ≤ stepsOf demands
-  pub reached : state ≡ stateRow corridor demands plan k
-  pub sums : total ≡ sum k (λ h. stateCost corridor demands plan (suc h))
+  pub reached : state ≡ stateRow width corridor demands plan k
+  pub sums : total ≡ sum k (λ h. ranCost corridor demands plan (suc h))
   pub low : total ≤ k * 558345748350
 
-module _ (corridor demands plan : List ℕ) where
-  pub ran-begun : (state : List ℕ) → state ≡ stateRow corridor demands plan 0 → RanTo corridor demands plan 0 state 0
+module _ (width : ℕ) (corridor demands plan : List ℕ) where
+  pub ran-begun : (state : List ℕ) → state ≡ stateRow width corridor demands plan 0 → RanTo width corridor demands plan 0 state 0
   ran-begun state e = record { bound = omega arith; reached = e; sums = sym (sum-none _); low = omega arith }
 
-  pub ran-more : (k : ℕ) (state after : List ℕ) (total more : ℕ) → RanTo corridor demands plan k state total → k < stepsOf demands
-      → after ≡ stateRow corridor demands plan (suc k) → more ≡ stateCost corridor demands plan (suc k) → more ≤ 558345748350
-      → RanTo corridor demands plan (k + 1) after (total + more)
-  ran-more k state after total more ran h e c b =
+  pub ran-more : (k : ℕ) (state after : List ℕ) (total more : ℕ) → RanTo width corridor demands plan k state total → k < stepsOf demands
+      → (row : List ℕ) → Ran width corridor demands plan k row after more
+      → RanTo width corridor demands plan (k + 1) after (total + more)
+  ran-more k state after total more ran h row more-ran =
       record {
         bound = omega arith;
-        reached = e ∙ ap (λ (j : ℕ). stateRow corridor demands plan j) (sym (add-one k));
-        sums = omega (arith, ran .sums, sum-more k (λ j. stateCost corridor demands plan (suc j)));
-        low = omega (arith, ran .low);
+        reached = more-ran .moved ∙ ap (λ (j : ℕ). stateRow width corridor demands plan j) (sym (add-one k));
+        sums = omega (arith, ran .sums, more-ran .adds, sum-more k (λ j. ranCost corridor demands plan (suc j)));
+        low = omega (arith, ran .low, more-ran .low);
       }
 
   -- all steps are done
-  ran-all : (k : ℕ) (state : List ℕ) (total : ℕ) → RanTo corridor demands plan k state total → stepsOf demands ≤ k → k ≡ stepsOf demands
+  ran-all : (k : ℕ) (state : List ℕ) (total : ℕ) → RanTo width corridor demands plan k state total → stepsOf demands ≤ k → k ≡ stepsOf demands
   ran-all k state total ran h = omega (arith, ran .bound)
 
-  pub ran-state : (k : ℕ) (state : List ℕ) (total : ℕ) → RanTo corridor demands plan k state total → stepsOf demands ≤ k → state ≡ stateRow corridor demands plan (stepsOf demands)
-  ran-state k state total ran h = ran .reached ∙ ap (λ (j : ℕ). stateRow corridor demands plan j) (ran-all k state total ran h)
+  pub ran-state : (k : ℕ) (state : List ℕ) (total : ℕ) → RanTo width corridor demands plan k state total → stepsOf demands ≤ k → state ≡ stateRow width corridor demands plan (stepsOf demands)
+  ran-state k state total ran h = ran .reached ∙ ap (λ (j : ℕ). stateRow width corridor demands plan j) (ran-all k state total ran h)
 
-  pub ran-cost : (k : ℕ) (state : List ℕ) (total : ℕ) → RanTo corridor demands plan k state total → stepsOf demands ≤ k → total ≡ runCost corridor demands plan
-  unfolding runCost cost run stateCost roadOf
-  ran-cost k state total ran h = ran .sums ∙ ap (λ (j : ℕ). sum j (λ m. stateCost corridor demands plan (suc m))) (ran-all k state total ran h)
+  pub ran-cost : (k : ℕ) (state : List ℕ) (total : ℕ) → RanTo width corridor demands plan k state total → stepsOf demands ≤ k → total ≡ runCost corridor demands plan
+  unfolding runCost cost run ranCost roadOf
+  ran-cost k state total ran h = ran .sums ∙ ap (λ (j : ℕ). sum j (λ m. ranCost corridor demands plan (suc m))) (ran-all k state total ran h)
 
-  pub state-row-even : (k : ℕ) (state row : List ℕ) → state ≡ stateRow corridor demands plan k → RowFits 4 row (linksOf corridor) → length state ≡ length row
+  pub state-row-even : (k : ℕ) (state row : List ℕ) → state ≡ stateRow width corridor demands plan k → RowFits width row (linksOf corridor) → length state ≡ length row
   unfolding stateRow
-  state-row-even k state row e q = ap length e ∙ row-length (linksOf corridor) _ _ ∙ sym q
+  state-row-even k state row e q = ap length e ∙ row-length width (linksOf corridor) _ _ ∙ sym q
 
-  pub state-rows-even : (k j : ℕ) (state other : List ℕ) → state ≡ stateRow corridor demands plan k → other ≡ stateRow corridor demands plan j → length state ≡ length other
+  pub state-rows-even : (k j : ℕ) (state other : List ℕ) → state ≡ stateRow width corridor demands plan k → other ≡ stateRow width corridor demands plan j → length state ≡ length other
   unfolding stateRow
   state-rows-even k j state other e q =
-      state-row-even k state other e (ap length q ∙ row-length (linksOf corridor) _ _)
+      state-row-even k state other e (ap length q ∙ row-length width (linksOf corridor) _ _)
 
   -- ---- the record's rows, row by row
 
   abbrev pub runWord : ℕ → ℕ → ℕ
-  runWord k = cell 4 (traceWord (run (roadOf corridor demands) (planOf (roadOf corridor demands) plan)) k)
+  runWord k = cell width (traceWord (run (roadOf corridor demands) (planOf (roadOf corridor demands) plan)) k)
 
   -- row k is lent, and comes back as the row of step k, or of state K
-  pub run-row : (k w m at : ℕ) (d l ys : List ℕ) → Rowed k m w runWord d l → k < stepsOf demands → k < m → w ≡ suc (linksOf corridor) * 4 → at ≡ k * w
-      → ys ≡ stepRow corridor demands plan k → Rowed (k + 1) m w runWord d (putMid at (at + w - at) l ys)
+  pub run-row : (k w m at : ℕ) (d l ys : List ℕ) → Rowed k m w runWord d l → k < stepsOf demands → k < m → w ≡ suc (linksOf corridor) * width → at ≡ k * w
+      → ys ≡ stepRow width corridor demands plan k → Rowed (k + 1) m w runWord d (putMid at (at + w - at) l ys)
   unfolding stepRow rowOf roadOf run
   run-row k w m at d l ys r h b e q y =
-      rowed-words k m w runWord d l at 4 (suc (linksOf corridor)) _ ys r b q y e
+      rowed-words k m w runWord d l at width (suc (linksOf corridor)) _ ys r b q y e
       (λ j c.
-      cell-same 4 (suc (linksOf corridor)) _ (traceWord (run (roadOf corridor demands) (planOf (roadOf corridor demands) plan)) k)
+      cell-same width (suc (linksOf corridor)) _ (traceWord (run (roadOf corridor demands) (planOf (roadOf corridor demands) plan)) k)
       (λ i p hi hp. ap (λ (x : Flows). nodeWord (stateAt (roadOf corridor demands) (planOf (roadOf corridor demands) plan) k i) x p) (sym (run-flows (roadOf corridor demands) (planOf (roadOf corridor demands) plan) k i h)))
       j (omega arith))
 
   -- t is K as the code has it
-  pub run-last-row : (k t w m at : ℕ) (d l ys : List ℕ) → Rowed k m w runWord d l → k ≡ t → t ≡ stepsOf demands → t < m → w ≡ suc (linksOf corridor) * 4 → at ≡ t * w
-      → ys ≡ stateRow corridor demands plan (stepsOf demands) → Rowed (t + 1) m w runWord d (putMid at (at + w - at) l ys)
+  pub run-last-row : (k t w m at : ℕ) (d l ys : List ℕ) → Rowed k m w runWord d l → k ≡ t → t ≡ stepsOf demands → t < m → w ≡ suc (linksOf corridor) * width → at ≡ t * w
+      → ys ≡ stateRow width corridor demands plan (stepsOf demands) → Rowed (t + 1) m w runWord d (putMid at (at + w - at) l ys)
   unfolding stateRow rowOf roadOf run
   run-last-row k t w m at d l ys r g h b e q y =
-      rowed-words t m w runWord d l at 4 (suc (linksOf corridor)) _ ys (subst (λ (x : ℕ). Rowed x m w runWord d l) g r) b q
-      (y ∙ ap (λ (j : ℕ). stateRow corridor demands plan j) (sym h)) e
+      rowed-words t m w runWord d l at width (suc (linksOf corridor)) _ ys (subst (λ (x : ℕ). Rowed x m w runWord d l) g r) b q
+      (y ∙ ap (λ (j : ℕ). stateRow width corridor demands plan j) (sym h)) e
       (λ j c.
-      cell-same 4 (suc (linksOf corridor)) _ (traceWord (run (roadOf corridor demands) (planOf (roadOf corridor demands) plan)) t)
+      cell-same width (suc (linksOf corridor)) _ (traceWord (run (roadOf corridor demands) (planOf (roadOf corridor demands) plan)) t)
       (λ i p hi hp.
       ap (λ (x : Flows). nodeWord (stateAt (roadOf corridor demands) (planOf (roadOf corridor demands) plan) t i) x p)
       (sym (ap (λ (x : ℕ). run (roadOf corridor demands) (planOf (roadOf corridor demands) plan) .flows x i) h ∙ run-last (roadOf corridor demands) (planOf (roadOf corridor demands) plan) i)))
       j (omega arith))
 
-  pub run-words : (k w m : ℕ) (d l : List ℕ) → Rowed k m w runWord d l → m ≤ k → m ≡ suc (stepsOf demands) → w ≡ suc (linksOf corridor) * 4 → l ≡ runWords corridor demands plan
+  pub run-words : (k w m : ℕ) (d l : List ℕ) → Rowed k m w runWord d l → m ≤ k → m ≡ suc (stepsOf demands) → w ≡ suc (linksOf corridor) * width → l ≡ runWords width corridor demands plan
   unfolding runWords traceWords roadOf
   run-words k w m d l r h e q =
-      rowed-grid k m w 4 (suc (linksOf corridor)) (traceWord (run (roadOf corridor demands) (planOf (roadOf corridor demands) plan))) d l r q h
-      ∙ ap (λ (x : ℕ). grid 4 (suc (linksOf corridor)) x (traceWord (run (roadOf corridor demands) (planOf (roadOf corridor demands) plan)))) e
+      rowed-grid k m w width (suc (linksOf corridor)) (traceWord (run (roadOf corridor demands) (planOf (roadOf corridor demands) plan))) d l r q h
+      ∙ ap (λ (x : ℕ). grid width (suc (linksOf corridor)) x (traceWord (run (roadOf corridor demands) (planOf (roadOf corridor demands) plan)))) e
 
-  pub step-row-fits : (k : ℕ) (row : List ℕ) → row ≡ stepRow corridor demands plan k → RowFits 4 row (linksOf corridor)
+  pub step-row-fits : (k : ℕ) (row : List ℕ) → row ≡ stepRow width corridor demands plan k → RowFits width row (linksOf corridor)
   unfolding stepRow
-  step-row-fits k row e = ap length e ∙ row-length (linksOf corridor) _ _
+  step-row-fits k row e = ap length e ∙ row-length width (linksOf corridor) _ _
 
-  -- ---- the cost after the rows
+-- ---- the cost after the rows
 
-  pub record-is-written : (g d : List ℕ) (total : ℕ) → g ≡ runWords corridor demands plan → length d ≡ recordLength (linksOf corridor) (stepsOf demands) → total ≡ runCost corridor demands plan
-      → set (set (g ++ drop (length d - 2) d) (length d - 2) (total % 4294967296)) (length d - 2 + 1) (total / 4294967296) ≡ simulated corridor demands plan
-  unfolding simulated recordWords runWords runCost roadOf
-  record-is-written g d total e h t =
-      let fits : length g ≡ length d - 2 = ap length e ∙ trace-length _ _ ∙ omega arith in
-      two-after g d (length d - 2) (total % 4294967296) (total / 4294967296) fits (omega arith)
-      ∙ ap (λ (x : List ℕ). x ++ lowHigh total) e
-      ∙ ap (λ (x : ℕ). runWords corridor demands plan ++ lowHigh x) t
+pub record-is-written : (corridor demands plan g d : List ℕ) (width total : ℕ) → width ≡ recordWidth → RanAll width corridor demands plan g total
+    → length d ≡ recordLength recordWidth (linksOf corridor) (stepsOf demands)
+    → set (set (g ++ drop (length d - 2) d) (length d - 2) (total % 4294967296)) (length d - 2 + 1) (total / 4294967296) ≡ simulated corridor demands plan
+unfolding simulated recordWords runWords runCost roadOf
+record-is-written corridor demands plan g d width total w ran h =
+    let e : g ≡ runWords recordWidth corridor demands plan = ran .written ∙ ap (λ (x : ℕ). runWords x corridor demands plan) w in
+    let fits : length g ≡ length d - 2 = ap length e ∙ trace-length _ _ _ ∙ omega arith in
+    two-after g d (length d - 2) (total % 4294967296) (total / 4294967296) fits (omega arith)
+    ∙ ap (λ (x : List ℕ). x ++ lowHigh total) e
+    ∙ ap (λ (x : ℕ). runWords recordWidth corridor demands plan ++ lowHigh x) (ran .adds)
+
+-- the room for the words of all states
+pub states-lent : (corridor demands d : List ℕ) (width : ℕ) → width ≡ recordWidth → length d ≡ recordLength recordWidth (linksOf corridor) (stepsOf demands)
+    → length d - 2 ≡ traceLength width (linksOf corridor) (stepsOf demands)
+states-lent corridor demands d width w e = let q : length d - 2 ≡ traceLength recordWidth (linksOf corridor) (stepsOf demands) = omega arith in
+    q ∙ ap (λ (x : ℕ). traceLength x (linksOf corridor) (stepsOf demands)) (sym w)

@@ -1,31 +1,33 @@
 -- A step on its rows is a step of the run: from the row of state k to the record's row k and the row of state k + 1.
 use Prim.Native.Nat.{ℕ, zero, suc, _+_, _-_, _*_, _≤_, _<_}
+use mathlib.Core.Bool.{cond}
 use mathlib.Core.List.{List, []}
 use mathlib.Core.Path.{_≡_, refl, ap, _∙_}
 use native.Mathlib.Omega.{arith}
+use lib.Dec.{ltb}
 use lib.ListN.{getD, take, drop}
 use Rattle.tables.proofs.Grid.{rowWords-same}
 use Rattle.tables.proofs.Part.{part-at}
 use Rattle.tables.proofs.Sum.{sum-same}
 use Rattle.road.specs.Corridor.{NodeState, Flows, Road, Plan}
-use Rattle.road.specs.Step.{Junction, flowsWith, outflow, moved}
+use Rattle.road.specs.Step.{Junction, receiving, flowsWith, outflow, moved}
 use Rattle.road.specs.Run.{supply, junction, inflow, next, planFlows, stateAt, noFlow}
 use Rattle.road.specs.Limits.{Limits, Bounded}
 use Rattle.road.proofs.Runs.{link-tops, run-jam}
 use Rattle.road.proofs.Same.{junction-same, next-same}
 use Rattle.road.proofs.Sizes.{run-state-fits}
-use Rattle.lists.specs.Words.{linksOf, stepsOf, nodeAt, demandsWord, roadOf, planOf, nodeWord}
+use Rattle.lists.specs.Words.{Width, linksOf, stepsOf, nodeAt, demandsWord, roadOf, planOf, nodeWord}
 use Rattle.lists.specs.Rows.{stateIn, flowsIn, stepRoad}
 use Rattle.simulate.specs.Rows.{rowOf, startRow, rowFlows, flowRow, nextRow, rowCost, StepKept}
-use Rattle.simulate.specs.Simulate.{stateRow, stepRow, stateCost}
+use Rattle.simulate.specs.Simulate.{stateRow, stepRow, ranCost}
 use Rattle.simulate.proofs.Rows.{row-state, row-flows}
 
 -- rows with the same states and flows at nodes 0..N are one list
-row-same : (links : ℕ) (state after : ℕ → NodeState) (flows other : ℕ → Flows) → ((i : ℕ) → i ≤ links → state i ≡ after i)
-    → ((i : ℕ) → i ≤ links → flows i ≡ other i) → rowOf links state flows ≡ rowOf links after other
+row-same : (width links : ℕ) (state after : ℕ → NodeState) (flows other : ℕ → Flows) → ((i : ℕ) → i ≤ links → state i ≡ after i)
+    → ((i : ℕ) → i ≤ links → flows i ≡ other i) → rowOf width links state flows ≡ rowOf width links after other
 unfolding rowOf
-row-same links state after flows other s f =
-    rowWords-same 4 (suc links) _ _
+row-same width links state after flows other s f =
+    rowWords-same width (suc links) _ _
     (λ i q h b. ap (λ (x : NodeState). nodeWord x (flows i) q) (s i (omega arith)) ∙ ap (λ (x : Flows). nodeWord (after i) x q) (f i (omega arith)))
 
 module _ (corridor demands : List ℕ) (k : ℕ) where
@@ -46,34 +48,35 @@ module _ (corridor demands : List ℕ) (k : ℕ) where
           ap (λ (n : ℕ). getD demands n 0) t
           ∙ ap (λ (n : ℕ). getD demands (1 + (k * n + (i * 2 + j))) 0) q
 
-  module _ (demand : List ℕ) (row : DemandRow demand) where
-    -- one step's demands say of a node what the whole demands say at step k
-    pub step-junction : (state : ℕ → NodeState) (i : ℕ) → i ≤ linksOf corridor → junction (stepRoad corridor demand) 0 state i ≡ junction (roadOf corridor demands) k state i
+  module _ (demand : List ℕ) (row : DemandRow demand) (downstream : ℕ) where
+    -- one step's demands, with what may pass beyond link N in it, say of a node what the whole demands say at step k
+    pub step-junction : downstream ≡ roadOf corridor demands .downstream k → (state : ℕ → NodeState) (i : ℕ) → i ≤ linksOf corridor
+        → junction (stepRoad corridor demand downstream) 0 state i ≡ junction (roadOf corridor demands) k state i
     unfolding junction supply stepRoad roadOf
-    step-junction state i h =
+    step-junction d state i h =
         λ z.
         record {
           link = nodeAt corridor i .link;
           ramp = nodeAt corridor i .ramp;
           state = state i;
           split = row .split i h z;
-          supply = supply (roadOf corridor demands) k state i;
+          supply = cond (ltb i (linksOf corridor)) (receiving (nodeAt corridor (suc i) .link) (state (suc i) .vehicles)) (d z);
         }
 
-    step-inflow : (lane : List ℕ) (flows : ℕ → Flows) (i : ℕ) → i ≤ linksOf corridor → inflow (stepRoad lane demand) 0 flows i ≡ inflow (roadOf corridor demands) k flows i
+    step-inflow : (lane : List ℕ) (flows : ℕ → Flows) (i : ℕ) → i ≤ linksOf corridor → inflow (stepRoad lane demand downstream) 0 flows i ≡ inflow (roadOf corridor demands) k flows i
     unfolding inflow stepRoad
     step-inflow lane flows zero h = refl
     step-inflow lane flows (suc j) h = ap (λ (b : ℕ). outflow (flows j) b) (row .split j (omega arith))
 
-    -- rule 6 asks nothing of the corridor: `lane` is any
+    -- rule 6 asks nothing of the corridor, nor of what may pass beyond it: `lane` and `downstream` are any
     pub step-next : (lane : List ℕ) (state : ℕ → NodeState) (flows : ℕ → Flows) (i : ℕ) → i ≤ linksOf corridor
-        → next (stepRoad lane demand) 0 state flows i ≡ next (roadOf corridor demands) k state flows i
+        → next (stepRoad lane demand downstream) 0 state flows i ≡ next (roadOf corridor demands) k state flows i
     unfolding next stepRoad
     step-next lane state flows i h =
         ap (λ (x : ℕ). moved (state i) x (getD demand (i * 2 + 0) 0) (flows i)) (step-inflow lane flows i h)
         ∙ ap (λ (x : ℕ). moved (state i) (inflow (roadOf corridor demands) k flows i) x (flows i)) (row .arrivals i h)
 
-module _ (corridor demands words : List ℕ) (k : ℕ) where
+module _ (width : ℕ) (wide : Width width) (corridor demands words : List ℕ) (k : ℕ) where
   abbrev road : Road
   road = roadOf corridor demands
 
@@ -105,38 +108,41 @@ module _ (corridor demands words : List ℕ) (k : ℕ) where
 
   module _ (demand rates : List ℕ) (rows : StepRows demand rates) where
     -- the flows from the row of state k
-    step-flows : (i : ℕ) → i ≤ linksOf corridor → rowFlows corridor demand rates (stateRow corridor demands words k) i ≡ planFlows road plan k (stateAt road plan k) i
+    step-flows : (downstream : ℕ) → downstream ≡ road .downstream k → (i : ℕ) → i ≤ linksOf corridor
+        → rowFlows width corridor demand downstream rates (stateRow width corridor demands words k) i ≡ planFlows road plan k (stateAt road plan k) i
     unfolding rowFlows planFlows roadOf stateRow
-    step-flows i h =
+    step-flows downstream d i h =
         ap (λ (x : Junction). flowsWith x (getD rates (i * 2 + 0) 0) (getD rates (i * 2 + 1) 0))
-        (step-junction corridor demands k demand (rows .demand-row) (stateIn (stateRow corridor demands words k)) i h
-        ∙ junction-same road k (stateIn (stateRow corridor demands words k)) (stateAt road plan k) i (λ j l. row-state (linksOf corridor) (stateAt road plan k) (λ j. noFlow) j l) h)
+        (step-junction corridor demands k demand (rows .demand-row) downstream d (stateIn width (stateRow width corridor demands words k)) i h
+        ∙ junction-same road k (stateIn width (stateRow width corridor demands words k)) (stateAt road plan k) i (λ j l. row-state width wide (linksOf corridor) (stateAt road plan k) (λ j. noFlow) j l) h)
         ∙ ap (λ (c : ℕ). flowsWith (junction road k (stateAt road plan k) i) c (getD rates (i * 2 + 1) 0)) (rows .rate i h)
         ∙ ap (λ (v : ℕ). flowsWith (junction road k (stateAt road plan k) i) (plan .rate k i) v) (rows .limit i h)
 
-    pub flow-row-is : flowRow corridor (linksOf corridor) demand rates (stateRow corridor demands words k) ≡ stepRow corridor demands words k
+    pub flow-row-is : (downstream : ℕ) → downstream ≡ road .downstream k
+        → flowRow width corridor (linksOf corridor) demand downstream rates (stateRow width corridor demands words k) ≡ stepRow width corridor demands words k
     unfolding flowRow stateRow stepRow
-    flow-row-is = row-same (linksOf corridor) _ _ _ _ (λ i h. row-state (linksOf corridor) (stateAt road plan k) (λ j. noFlow) i h) step-flows
+    flow-row-is downstream d =
+        row-same width (linksOf corridor) _ _ _ _ (λ i h. row-state width wide (linksOf corridor) (stateAt road plan k) (λ j. noFlow) i h) (step-flows downstream d)
 
-    pub next-row-is : nextRow (linksOf corridor) demand (stepRow corridor demands words k) ≡ stateRow corridor demands words (suc k)
+    pub next-row-is : nextRow width (linksOf corridor) demand (stepRow width corridor demands words k) ≡ stateRow width corridor demands words (suc k)
     unfolding nextRow stateAt roadOf stateRow stepRow
     next-row-is =
-        row-same (linksOf corridor) _ _ _ _
+        row-same width (linksOf corridor) _ _ _ _
         (λ i h.
-        step-next corridor demands k demand (rows .demand-row) [] (stateIn (stepRow corridor demands words k)) (flowsIn (stepRow corridor demands words k)) i h
-        ∙ next-same road k (stateIn (stepRow corridor demands words k)) (stateAt road plan k) (flowsIn (stepRow corridor demands words k)) (planFlows road plan k (stateAt road plan k)) i
-        (λ j l. row-state (linksOf corridor) (stateAt road plan k) _ j l)
-        (λ j l. row-flows (linksOf corridor) (stateAt road plan k) _ j l)
+        step-next corridor demands k demand (rows .demand-row) 0 [] (stateIn width (stepRow width corridor demands words k)) (flowsIn width (stepRow width corridor demands words k)) i h
+        ∙ next-same road k (stateIn width (stepRow width corridor demands words k)) (stateAt road plan k) (flowsIn width (stepRow width corridor demands words k)) (planFlows road plan k (stateAt road plan k)) i
+        (λ j l. row-state width wide (linksOf corridor) (stateAt road plan k) _ j l)
+        (λ j l. row-flows width wide (linksOf corridor) (stateAt road plan k) _ j l)
         h)
         (λ i h. refl)
 
     -- within limits and bounds the row of state k keeps what a step asks
-    pub step-kept : Limits road → Bounded road plan → k < stepsOf demands → (i : ℕ) → i ≤ linksOf corridor → StepKept corridor demand rates (stateRow corridor demands words k) i
+    pub step-kept : Limits road → Bounded road plan → k < stepsOf demands → (i : ℕ) → i ≤ linksOf corridor → StepKept width corridor demand rates (stateRow width corridor demands words k) i
     unfolding roadOf stateRow
     step-kept limits bounded hk i hi =
-        let s : stateIn (stateRow corridor demands words k) i ≡ stateAt road plan k i = row-state (linksOf corridor) (stateAt road plan k) (λ j. noFlow) i hi in
-        let n : stateIn (stateRow corridor demands words k) i .vehicles ≡ stateAt road plan k i .vehicles = ap (λ (x : NodeState). x .vehicles) s in
-        let l : stateIn (stateRow corridor demands words k) i .queue ≡ stateAt road plan k i .queue = ap (λ (x : NodeState). x .queue) s in
+        let s : stateIn width (stateRow width corridor demands words k) i ≡ stateAt road plan k i = row-state width wide (linksOf corridor) (stateAt road plan k) (λ j. noFlow) i hi in
+        let n : stateIn width (stateRow width corridor demands words k) i .vehicles ≡ stateAt road plan k i .vehicles = ap (λ (x : NodeState). x .vehicles) s in
+        let l : stateIn width (stateRow width corridor demands words k) i .queue ≡ stateAt road plan k i .queue = ap (λ (x : NodeState). x .queue) s in
         let fits = run-state-fits road limits plan k i (omega arith) hi in
         record {
           jam = omega (arith, run-jam road limits plan k i (omega arith) hi);
@@ -148,12 +154,13 @@ module _ (corridor demands words : List ℕ) (k : ℕ) where
         }
 
 -- the sum of its row is the cost of state k
-pub state-cost-is : (corridor demands words : List ℕ) (k : ℕ) → rowCost (linksOf corridor) (stateRow corridor demands words k) ≡ stateCost corridor demands words k
-unfolding rowCost stateRow stateCost
-state-cost-is corridor demands words k =
-    sum-same (suc (linksOf corridor)) _ _ (λ i h. ap (λ (x : NodeState). x .vehicles + x .queue) (row-state (linksOf corridor) _ _ i (omega arith)))
+pub state-cost-is : (width : ℕ) (wide : Width width) (corridor demands words : List ℕ) (k : ℕ)
+    → rowCost width (linksOf corridor) (stateRow width corridor demands words k) ≡ ranCost corridor demands words k
+unfolding rowCost stateRow ranCost
+state-cost-is width wide corridor demands words k =
+    sum-same (suc (linksOf corridor)) _ _ (λ i h. ap (λ (x : NodeState). x .vehicles + x .queue) (row-state width wide (linksOf corridor) _ _ i (omega arith)))
 
 -- the corridor's start is the row of state 0
-pub start-row-is : (corridor demands words : List ℕ) → startRow corridor (linksOf corridor) ≡ stateRow corridor demands words 0
+pub start-row-is : (width : ℕ) (corridor demands words : List ℕ) → startRow width corridor (linksOf corridor) ≡ stateRow width corridor demands words 0
 unfolding startRow stateAt roadOf stateRow
-start-row-is corridor demands words = refl
+start-row-is width corridor demands words = refl

@@ -6,13 +6,13 @@ use mathlib.Core.List.{List}
 use lib.ListN.{length}
 use lib.Dec.{eqb}
 use Rattle.tables.specs.declared.Answer.{Answer}
-use Rattle.tables.specs.Answer.{orElse}
-use Rattle.tables.specs.Sum.{sum}
+use Rattle.tables.specs.Answer.{orElse, sized, left}
 use Rattle.road.specs.Limits.{Limits, Bounded}
-use Rattle.road.specs.Run.{planFlows, stateAt, noFlow, run, cost}
-use Rattle.lists.specs.Words.{linksOf, stepsOf, roadOf, planOf, traceWords, recordWords, demandsLength, planLength, recordLength}
+use Rattle.road.specs.Corridor.{NodeState, Flows}
+use Rattle.road.specs.Run.{planFlows, stateAt, noFlow, run, stateCost, cost}
+use Rattle.lists.specs.Words.{linksOf, stepsOf, roadOf, planOf, recordWidth, traceWords, recordWords, demandsLength, planLength, recordLength}
 use Rattle.lists.specs.Fits.{CorridorFits}
-use Rattle.lists.specs.Refusals.{sizes, sized, ranges, bounds}
+use Rattle.lists.specs.Refusals.{sizes, ranges, planBounds}
 use Rattle.simulate.specs.Rows.{rowOf}
 
 -- 1. N, K and all lengths are right; `room` is the length of the lent record
@@ -20,18 +20,22 @@ unfoldable pub simulateSizes : List ℕ → List ℕ → List ℕ → ℕ → Bo
 simulateSizes corridor demands plan room =
     sizes corridor demands
     && (eqb (length plan) (planLength (linksOf corridor) (stepsOf demands))
-    && eqb room (recordLength (linksOf corridor) (stepsOf demands)))
+    && eqb room (recordLength recordWidth (linksOf corridor) (stepsOf demands)))
 
 -- 1, then 2 to 5, then 6
 unfoldable pub simulateAnswer : List ℕ → List ℕ → List ℕ → ℕ → Answer
 simulateAnswer corridor demands plan room =
     orElse (sized (simulateSizes corridor demands plan room))
-    (orElse (ranges (roadOf corridor demands)) (bounds (roadOf corridor demands) (planOf (roadOf corridor demands) plan)))
+    (orElse (ranges (roadOf corridor demands)) (planBounds corridor demands plan))
 
 -- "Its record is what the six rules of a step make of it, the demands and the corridor's start, with the fixed zeros and the cost."
 unfoldable pub simulated : List ℕ → List ℕ → List ℕ → List ℕ
 simulated corridor demands plan =
-    recordWords (roadOf corridor demands) (run (roadOf corridor demands) (planOf (roadOf corridor demands) plan))
+    recordWords recordWidth (roadOf corridor demands) (run (roadOf corridor demands) (planOf (roadOf corridor demands) plan))
+
+-- the lent record at exit
+unfoldable pub recordLeft : List ℕ → List ℕ → List ℕ → List ℕ → List ℕ
+recordLeft corridor demands plan lent = left (simulateAnswer corridor demands plan (length lent)) (simulated corridor demands plan) lent
 
 -- what refusals 1 to 6 leave: corridor, demands and plan within limits and bounds
 pub record Sound (corridor demands plan : List ℕ) : Type 0 where
@@ -44,30 +48,42 @@ pub record Sound (corridor demands plan : List ℕ) : Type 0 where
 
 -- ---- a run row by row
 
+-- state k of a plan's list, and the flows of step k
+abbrev pub ranState : List ℕ → List ℕ → List ℕ → ℕ → ℕ → NodeState
+ranState corridor demands plan k = stateAt (roadOf corridor demands) (planOf (roadOf corridor demands) plan) k
+
+abbrev pub ranFlows : List ℕ → List ℕ → List ℕ → ℕ → ℕ → Flows
+ranFlows corridor demands plan k = planFlows (roadOf corridor demands) (planOf (roadOf corridor demands) plan) k (ranState corridor demands plan k)
+
 -- the row of state k, with no flows yet
-unfoldable pub stateRow : List ℕ → List ℕ → List ℕ → ℕ → List ℕ
-stateRow corridor demands plan k =
-    rowOf (linksOf corridor) (stateAt (roadOf corridor demands) (planOf (roadOf corridor demands) plan) k) (λ i. noFlow)
+unfoldable pub stateRow : ℕ → List ℕ → List ℕ → List ℕ → ℕ → List ℕ
+stateRow width corridor demands plan k = rowOf width (linksOf corridor) (ranState corridor demands plan k) (λ i. noFlow)
 
 -- the record's row of step k
-unfoldable pub stepRow : List ℕ → List ℕ → List ℕ → ℕ → List ℕ
-stepRow corridor demands plan k =
-    rowOf (linksOf corridor)
-    (stateAt (roadOf corridor demands) (planOf (roadOf corridor demands) plan) k)
-    (planFlows (roadOf corridor demands) (planOf (roadOf corridor demands) plan) k (stateAt (roadOf corridor demands) (planOf (roadOf corridor demands) plan) k))
+unfoldable pub stepRow : ℕ → List ℕ → List ℕ → List ℕ → ℕ → List ℕ
+stepRow width corridor demands plan k = rowOf width (linksOf corridor) (ranState corridor demands plan k) (ranFlows corridor demands plan k)
 
 -- the vehicles and queues of state k
-unfoldable pub stateCost : List ℕ → List ℕ → List ℕ → ℕ → ℕ
-stateCost corridor demands plan k =
-    sum (suc (linksOf corridor))
-    (λ i.
-    stateAt (roadOf corridor demands) (planOf (roadOf corridor demands) plan) k i .vehicles
-    + stateAt (roadOf corridor demands) (planOf (roadOf corridor demands) plan) k i .queue)
+unfoldable pub ranCost : List ℕ → List ℕ → List ℕ → ℕ → ℕ
+ranCost corridor demands plan k = stateCost (suc (linksOf corridor)) (ranState corridor demands plan k)
 
 -- the cost of states 1..K
 unfoldable pub runCost : List ℕ → List ℕ → List ℕ → ℕ
 runCost corridor demands plan = cost (roadOf corridor demands) (run (roadOf corridor demands) (planOf (roadOf corridor demands) plan))
 
 -- the record's words of states 0..K
-unfoldable pub runWords : List ℕ → List ℕ → List ℕ → List ℕ
-runWords corridor demands plan = traceWords (roadOf corridor demands) (run (roadOf corridor demands) (planOf (roadOf corridor demands) plan))
+unfoldable pub runWords : ℕ → List ℕ → List ℕ → List ℕ → List ℕ
+runWords width corridor demands plan = traceWords width (roadOf corridor demands) (run (roadOf corridor demands) (planOf (roadOf corridor demands) plan))
+
+-- what step k makes of state k: the record's row, the next state's row, and that state's vehicles and queues
+pub record Ran (width : ℕ) (corridor demands plan : List ℕ) (k : ℕ) (row after : List ℕ) (total : ℕ) : Type 0 where
+  pub written : row ≡ stepRow width corridor demands plan k
+  pub moved : after ≡ stateRow width corridor demands plan (suc k)
+  pub adds : total ≡ ranCost corridor demands plan (suc k)
+  pub low : total ≤ 558345748350
+
+-- what all steps make: the words of all states, and their cost
+pub record RanAll (width : ℕ) (corridor demands plan states : List ℕ) (total : ℕ) : Type 0 where
+  pub written : states ≡ runWords width corridor demands plan
+  pub adds : total ≡ runCost corridor demands plan
+  pub low : total ≤ 804017877624000

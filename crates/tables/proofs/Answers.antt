@@ -1,5 +1,5 @@
 -- Laws of answers: of `orElse`, of a `refusal` by its number, of `unless`, and of what is `left` of a lent list.
-use mathlib.Core.Bool.{Bool, true, false}
+use mathlib.Core.Bool.{Bool, true, false, true≢false}
 use mathlib.Core.List.{List}
 use mathlib.Core.Logic.{_↔_, _≢_}
 use mathlib.Core.Path.{_≡_, refl, sym, ap, _∙_, subst}
@@ -7,7 +7,7 @@ use Prim.Native.Nat.{ℕ, zero, suc, _≤_}
 use native.Mathlib.Omega.{arith}
 use Rattle.tables.specs.declared.Answer.{Answer}
 use Rattle.tables.specs.declared.Answer.the-variants.{Accepted, Refused}
-use Rattle.tables.specs.Answer.{numberOf, rowOf, nodeOf, orElse, refusal, unless, left}
+use Rattle.tables.specs.Answer.{isRefused, orElse, refusal, unless, left, Small, TakenApart}
 
 abbrev pub Refuses : Answer → Type 0
 Refuses Accepted = ⊥
@@ -16,6 +16,15 @@ Refuses (Refused number row node) = Unit {0}
 -- what a `match` tells of a value
 pub refuses-is : (a : Answer) (number row node : ℕ) → a ≡ Refused number row node → Refuses a
 refuses-is a number row node e = subst Refuses (sym e) tt
+
+-- what the test of an answer tells: t is what the test answered
+pub told-refused : (a : Answer) (t : Bool) → t ≡ isRefused a → t ≡ true → Refuses a
+told-refused Accepted t e h = let z : _≡_ {A = ℕ} 0 1 = cc in absurd (omega arith)
+told-refused (Refused number row node) t e h = tt
+
+pub told-accepted : (a : Answer) (t : Bool) → t ≡ isRefused a → t ≡ false → a ≡ Accepted
+told-accepted Accepted t e h = refl
+told-accepted (Refused number row node) t e h = let z : _≡_ {A = ℕ} 0 1 = cc in absurd (omega arith)
 
 pub accepted-not-refused : (number row node : ℕ) → Accepted ≡ Refused number row node → ⊥
 accepted-not-refused number row node e = subst Refuses (sym e) tt
@@ -38,6 +47,13 @@ pub orElse-assoc : (a b c : Answer) → orElse (orElse a b) c ≡ orElse a (orEl
 orElse-assoc Accepted b c = refl
 orElse-assoc (Refused number row node) b c = refl
 
+-- a is what the first call answered, b what the second did
+pub or-else-stop : (a x y : Answer) → a ≡ x → Refuses a → a ≡ orElse x y
+or-else-stop a x y e h = sym (ap (λ (z : Answer). orElse z y) (sym e) ∙ orElse-refuses a y h)
+
+pub or-else-next : (a b x y : Answer) → a ≡ x → a ≡ Accepted → b ≡ y → b ≡ orElse x y
+or-else-next a b x y e h q = q ∙ ap (λ (z : Answer). orElse z y) (sym h ∙ e)
+
 -- ---- a refusal by its number
 
 pub refusal-accepts : (x row node : ℕ) → (refusal x row node ≡ Accepted) ↔ (x ≡ 0)
@@ -56,6 +72,10 @@ refusal-none x v row node e h = refusal-accepts x row node .1 (sym e ∙ h)
 
 pub refusal-some : (x v row node : ℕ) → v ≡ x → v ≢ 0 → Refused v row node ≡ refusal x row node
 refusal-some x v row node e h = sym (refusal-refuses x row node v row node .1 (sym e, h, refl, refl))
+
+-- a is the answer that a call made of it
+pub refusal-told : (x v row node : ℕ) (a : Answer) → a ≡ refusal v row node → v ≡ x → a ≡ refusal x row node
+refusal-told x v row node a e h = e ∙ ap (λ (n : ℕ). refusal n row node) h
 
 pub refusal-same : (x y row node : ℕ) → x ≡ y → refusal x row node ≡ refusal y row node
 refusal-same x y row node e = ap (λ (n : ℕ). refusal n row node) e
@@ -76,22 +96,21 @@ refusal-unless t x row node h =
 
 -- ---- what is left of a lent list: a is the answer as the code has it, and l the list at exit
 
-pub left-refused : (a b : Answer) (number row node : ℕ) (new lent : List ℕ) → a ≡ b → a ≡ Refused number row node → lent ≡ left b new lent
-left-refused a b number row node new lent e h = ap (λ (x : Answer). left x new lent) (sym h ∙ e)
+left-kept : (a : Answer) (new lent : List ℕ) → Refuses a → lent ≡ left a new lent
+left-kept Accepted new lent h = absurd h
+left-kept (Refused number row node) new lent h = refl
+
+pub left-refused : (a b : Answer) (new lent : List ℕ) → a ≡ b → Refuses a → lent ≡ left b new lent
+left-refused a b new lent e h = left-kept a new lent h ∙ ap (λ (x : Answer). left x new lent) e
 
 pub left-accepted : (a b : Answer) (new lent l : List ℕ) → a ≡ b → a ≡ Accepted → l ≡ new → l ≡ left b new lent
 left-accepted a b new lent l e h w = w ∙ ap (λ (x : Answer). left x new lent) (sym h ∙ e)
 
--- ---- answers whose number, row and node fit the number that the C host gets
-
-pub record Small (answer : Answer) : Type 0 where
-  pub number : numberOf answer ≤ 255
-  pub row : rowOf answer ≤ 65535
-  pub node : nodeOf answer ≤ 255
+-- ---- answers that fit the number that the C host gets
 
 pub small-refusal : (x row node : ℕ) → x ≤ 255 → row ≤ 65535 → node ≤ 255 → Small (refusal x row node)
-small-refusal zero row node a b c = record { number = omega arith; row = omega arith; node = omega arith }
-small-refusal (suc x) row node a b c = record { number = a; row = b; node = c }
+small-refusal zero row node a b c = record { number = omega arith; row = omega arith; node = omega arith; named = λ e. absurd (true≢false (sym e)) }
+small-refusal (suc x) row node a b c = record { number = a; row = b; node = c; named = λ e. omega arith }
 
 pub small-orElse : (a b : Answer) → Small a → Small b → Small (orElse a b)
 small-orElse Accepted b h k = k
@@ -100,3 +119,16 @@ small-orElse (Refused number row node) b h k = h
 pub small-unless : (t : Bool) (x : ℕ) → x ≤ 255 → unless t x ≤ 255
 small-unless true x h = omega arith
 small-unless false x h = h
+
+-- that number is taken apart again
+pub taken-apart : (answer : Answer) → Small answer → TakenApart answer
+taken-apart Accepted small =
+    record { accepted = (λ e. refl, λ e. refl); number = refl; node = refl; row = refl }
+taken-apart (Refused number row node) small =
+    let some : 1 ≤ number = small .named refl in
+    record {
+      accepted = (λ e. absurd (omega arith), λ e. absurd (accepted-not-refused number row node (sym e)));
+      number = omega arith;
+      node = omega arith;
+      row = omega arith;
+    }

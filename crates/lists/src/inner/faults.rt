@@ -1,13 +1,12 @@
 // The fault of one node by each of refusals 2 to 6: its number, or 0.
 ghost use mathlib.Core.Path.{_≡_};
-ghost use Prim.Native.Nat.{_+_, _*_, _≤_};
 ghost use mathlib.Core.Bool.{_&&_};
-ghost use lib.ListN.{length};
 ghost use lib.Dec.{eqb};
 ghost use Rattle.tables.specs.Answer.{unless};
 ghost use Rattle.road.specs.Corridor.{Node};
 ghost use Rattle.road.specs.Values.{linkOf, rampOf, stateOf};
 ghost use Rattle.lists.specs.Words.{nodeAt};
+ghost use Rattle.lists.specs.Fits.{NodeFits};
 ghost use Rattle.lists.specs.Refusals.{linkFault, fresh, rampFault, startFault, demandFault, planFault};
 use crate::inner::words;
 use road::Link;
@@ -73,7 +72,7 @@ pub fn link_fault(i: usize, link: Link) -> u32
 
 // Whether no node before node i has its identifier.
 pub fn fresh(corridor: &[u32], i: usize) -> bool
-    requires { ⌜ 1 + (i * 9 + 9) ≤ length (now corridor) ⌝ }
+    requires { ⌜ NodeFits (now corridor) i ⌝ }
     ensures { λ r. ⌜ r ≡ fresh (λ j. nodeAt (now (corridor .entry)) j .identifier) i ⌝ }
 {
     let own = words::identifier_at(corridor, i);

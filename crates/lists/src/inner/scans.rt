@@ -2,15 +2,28 @@
 ghost use mathlib.Core.Path.{_≡_};
 ghost use mathlib.Core.Bool.{true};
 ghost use Prim.Native.Nat.{suc, _+_, _*_, _≤_, _<_};
-ghost use lib.ListN.{length};
+ghost use lib.ListN.{length, getD};
+ghost use Rattle.tables.specs.Answer.{refusal};
 ghost use Rattle.tables.specs.First.{firstNode, firstPlace};
-ghost use Rattle.lists.specs.Words.{linksOf, stepsOf, roadOf, planOf, planLength};
-ghost use Rattle.lists.specs.Refusals.{sizes, ranges, bounds};
-ghost use Rattle.lists.specs.Scans.{lengthsFit, linkFaultAt, rampFaultAt, startFaultAt, demandFaultAt, planFaultAt, demandFaultIn, planFaultIn, corridorRefusal};
-ghost use Rattle.lists.specs.Fits.{CorridorFits, DemandsFit, RowFits};
+ghost use Rattle.lists.specs.Words.{linksOf, stepsOf, nodeAt, roadOf, planLength, Width};
+ghost use Rattle.lists.specs.Refusals.{sizes, startFault, demandFault, planFault, ranges, planBounds};
+ghost use Rattle.lists.specs.Scans.{lengthsFit, nodeFault, nodeFaultIn, nodeFaultAt, RowFor, corridorRefusal};
+ghost use Rattle.lists.specs.Fits.{CorridorFits, NodeFits, NodeIn};
+ghost use Rattle.lists.specs.declared.inner.scans.NodeTest.the-variants.{Ramp};
 use crate::inner::faults;
 use crate::inner::words;
 use tables::Answer;
+use tables::is_refused;
+use tables::refusal;
+
+// What is looked for at a node: refusals 2, 3 and 4 in the corridor's words, 5 in a row of the demands, 6 in a row of a plan.
+pub enum NodeTest {
+    Link,
+    Ramp,
+    Start,
+    Demand,
+    Plan,
+}
 
 // How many words `rows` rows of `width` words have.
 pub fn table_length(rows: usize, width: usize) -> usize
@@ -63,39 +76,18 @@ pub fn sizes(corridor: &[u32], demands: &[u32]) -> bool
     )
 }
 
-// Refusal 2 at node i.
-fn link_number(corridor: &[u32], i: usize) -> u32
-    requires { ⌜ 1 + (i * 9 + 9) ≤ length (now corridor) ⌝ }
-    ensures { λ r. ⌜ r ≡ linkFaultAt (now (corridor .entry)) i ⌝ }
+// How many words a record's row has.
+pub fn state_words(links: usize, width: usize) -> usize
+    requires { ⌜ (links ≤ 64) × Width width ⌝ }
+    ensures { λ r. ⌜ (r ≡ suc links * width) × (r ≤ 260) ⌝ }
 {
-    faults::link_fault(i, words::link_at(corridor, i))
-}
-
-// The first node with refusal 2.
-pub fn scan_links(corridor: &[u32], links: usize) -> Answer
-    requires { ⌜ CorridorFits (now corridor) links ⌝ }
-    ensures { λ r. ⌜ r ≡ firstNode (suc links) 0 (linkFaultAt (now (corridor .entry))) ⌝ }
-{
-    let nodes = links + 1;
-    let mut i = 0;
-    while i < nodes {
-        let number = link_number(corridor, i);
-        if number != 0 {
-            return Answer::Refused {
-                number,
-                row: 0,
-                node: i as u32,
-            };
-        }
-        i += 1;
-    }
-    Answer::Accepted
+    (links + 1) * width
 }
 
 // Refusal 3 at node i.
 fn ramp_number(corridor: &[u32], links: usize, i: usize) -> u32
-    requires { ⌜ 1 + (i * 9 + 9) ≤ length (now corridor) ⌝ }
-    ensures { λ r. ⌜ r ≡ rampFaultAt (now (corridor .entry)) links i ⌝ }
+    requires { ⌜ NodeFits (now corridor) i ⌝ }
+    ensures { λ r. ⌜ r ≡ nodeFault Ramp (now (corridor .entry)) links i 0 0 ⌝ }
 {
     let identifier = words::identifier_at(corridor, i);
     let ramp = words::ramp_at(corridor, i);
@@ -103,31 +95,10 @@ fn ramp_number(corridor: &[u32], links: usize, i: usize) -> u32
     faults::ramp_fault(i == links, identifier, ramp, fresh)
 }
 
-// The first node with refusal 3.
-pub fn scan_ramps(corridor: &[u32], links: usize) -> Answer
-    requires { ⌜ CorridorFits (now corridor) links ⌝ }
-    ensures { λ r. ⌜ r ≡ firstNode (suc links) 0 (rampFaultAt (now (corridor .entry)) links) ⌝ }
-{
-    let nodes = links + 1;
-    let mut i = 0;
-    while i < nodes {
-        let number = ramp_number(corridor, links, i);
-        if number != 0 {
-            return Answer::Refused {
-                number,
-                row: 0,
-                node: i as u32,
-            };
-        }
-        i += 1;
-    }
-    Answer::Accepted
-}
-
 // Refusal 4 at node i.
 fn start_number(corridor: &[u32], i: usize) -> u32
-    requires { ⌜ 1 + (i * 9 + 9) ≤ length (now corridor) ⌝ }
-    ensures { λ r. ⌜ r ≡ startFaultAt (now (corridor .entry)) i ⌝ }
+    requires { ⌜ NodeFits (now corridor) i ⌝ }
+    ensures { λ r. ⌜ r ≡ startFault (nodeAt (now (corridor .entry)) i) ⌝ }
 {
     let link = words::link_at(corridor, i);
     let ramp = words::ramp_at(corridor, i);
@@ -135,55 +106,10 @@ fn start_number(corridor: &[u32], i: usize) -> u32
     faults::start_fault(link, ramp, start)
 }
 
-// The first node with refusal 4.
-pub fn scan_starts(corridor: &[u32], links: usize) -> Answer
-    requires { ⌜ CorridorFits (now corridor) links ⌝ }
-    ensures { λ r. ⌜ r ≡ firstNode (suc links) 0 (startFaultAt (now (corridor .entry))) ⌝ }
-{
-    let nodes = links + 1;
-    let mut i = 0;
-    while i < nodes {
-        let number = start_number(corridor, i);
-        if number != 0 {
-            return Answer::Refused {
-                number,
-                row: 0,
-                node: i as u32,
-            };
-        }
-        i += 1;
-    }
-    Answer::Accepted
-}
-
-// Refusals 2 to 4, each over all nodes before the next.
-pub fn scan_corridor(corridor: &[u32], links: usize) -> Answer
-    requires { ⌜ CorridorFits (now corridor) links ⌝ }
-    ensures { λ r. ⌜ r ≡ corridorRefusal (now (corridor .entry)) links ⌝ }
-{
-    let link = scan_links(corridor, links);
-    if let Answer::Refused {
-        number: _,
-        row: _,
-        node: _,
-    } = link {
-        return link;
-    }
-    let ramp = scan_ramps(corridor, links);
-    if let Answer::Refused {
-        number: _,
-        row: _,
-        node: _,
-    } = ramp {
-        return ramp;
-    }
-    scan_starts(corridor, links)
-}
-
 // Refusal 5 at node i, in a row of the demands.
 fn demand_number(links: usize, row: &[u32], i: usize) -> u32
-    requires { ⌜ i * 2 + 2 ≤ length (now row) ⌝ }
-    ensures { λ r. ⌜ r ≡ demandFaultIn links (now (row .entry)) i ⌝ }
+    requires { ⌜ NodeIn 2 (now row) i ⌝ }
+    ensures { λ r. ⌜ r ≡ demandFault links i (getD (now (row .entry)) (i * 2 + 0) 0) (getD (now (row .entry)) (i * 2 + 1) 0) ⌝ }
 {
     faults::demand_fault(
         links,
@@ -193,54 +119,10 @@ fn demand_number(links: usize, row: &[u32], i: usize) -> u32
     )
 }
 
-// The first node of step k with refusal 5, in the step's row of the demands.
-pub fn demand_row(k: usize, links: usize, row: &[u32]) -> Answer
-    requires { ⌜ (k ≤ 1440) × (links ≤ 64) × RowFits 2 (now row) links ⌝ }
-    ensures { λ r. ⌜ r ≡ firstNode (suc links) k (demandFaultIn links (now (row .entry))) ⌝ }
-{
-    let nodes = links + 1;
-    let mut i = 0;
-    while i < nodes {
-        let number = demand_number(links, row, i);
-        if number != 0 {
-            return Answer::Refused {
-                number,
-                row: k as u32,
-                node: i as u32,
-            };
-        }
-        i += 1;
-    }
-    Answer::Accepted
-}
-
-// The first step and node with refusal 5.
-pub fn scan_demands(demands: &[u32], links: usize, steps: usize) -> Answer
-    requires { ⌜ DemandsFit (now demands) links steps ⌝ }
-    ensures { λ r. ⌜ r ≡ firstPlace steps (suc links) (demandFaultAt (now (demands .entry)) links) ⌝ }
-{
-    let width = (links + 1) * 2;
-    let mut k = 0;
-    while k < steps {
-        let at = 1 + row_at(k, width, steps);
-        let end = at + width;
-        let answer = demand_row(k, links, &demands[at..end]);
-        if let Answer::Refused {
-            number: _,
-            row: _,
-            node: _,
-        } = answer {
-            return answer;
-        }
-        k += 1;
-    }
-    Answer::Accepted
-}
-
 // Refusal 6 at node i, in a row of the plan.
 fn plan_number(corridor: &[u32], row: &[u32], i: usize) -> u32
-    requires { ⌜ (1 + (i * 9 + 9) ≤ length (now corridor)) × (i * 2 + 2 ≤ length (now row)) ⌝ }
-    ensures { λ r. ⌜ r ≡ planFaultIn (now (corridor .entry)) (now (row .entry)) i ⌝ }
+    requires { ⌜ NodeFits (now corridor) i × NodeIn 2 (now row) i ⌝ }
+    ensures { λ r. ⌜ r ≡ planFault (nodeAt (now (corridor .entry)) i .link) (nodeAt (now (corridor .entry)) i .ramp) (getD (now (row .entry)) (i * 2 + 0) 0) (getD (now (row .entry)) (i * 2 + 1) 0) ⌝ }
 {
     let link = words::link_at(corridor, i);
     let ramp = words::ramp_at(corridor, i);
@@ -252,45 +134,115 @@ fn plan_number(corridor: &[u32], row: &[u32], i: usize) -> u32
     )
 }
 
-// The first node of step k with refusal 6, in the step's row of the plan.
-pub fn plan_row(k: usize, corridor: &[u32], links: usize, row: &[u32]) -> Answer
+// What a test finds at node i.
+fn node_number(test: NodeTest, corridor: &[u32], links: usize, row: &[u32], i: usize) -> u32
     requires { ⌜ CorridorFits (now corridor) links ⌝ }
-    requires { ⌜ (k ≤ 1440) × RowFits 2 (now row) links ⌝ }
-    ensures { λ r. ⌜ r ≡ firstNode (suc links) k (planFaultIn (now (corridor .entry)) (now (row .entry))) ⌝ }
+    requires { ⌜ RowFor test (now row) links × (i ≤ links) ⌝ }
+    ensures { λ r. ⌜ r ≡ nodeFaultIn test (now (corridor .entry)) links (now (row .entry)) i ⌝ }
+{
+    match test {
+        NodeTest::Link => faults::link_fault(i, words::link_at(corridor, i)),
+        NodeTest::Ramp => ramp_number(corridor, links, i),
+        NodeTest::Start => start_number(corridor, i),
+        NodeTest::Demand => demand_number(links, row, i),
+        NodeTest::Plan => plan_number(corridor, row, i),
+    }
+}
+
+// The same as an answer, in row k.
+fn node_answer(
+    test: NodeTest,
+    k: usize,
+    corridor: &[u32],
+    links: usize,
+    row: &[u32],
+    i: usize,
+) -> Answer
+    requires { ⌜ CorridorFits (now corridor) links ⌝ }
+    requires { ⌜ (k ≤ 1440) × RowFor test (now row) links × (i ≤ links) ⌝ }
+    ensures { λ r. ⌜ r ≡ refusal (nodeFaultIn test (now (corridor .entry)) links (now (row .entry)) i) k i ⌝ }
+{
+    let number = node_number(test, corridor, links, row, i);
+    refusal(number, k as u32, i as u32)
+}
+
+// The first node that a test refuses, in row k of a list or, where the test reads no row, in the corridor.
+pub fn scan_nodes(
+    test: NodeTest,
+    k: usize,
+    corridor: &[u32],
+    links: usize,
+    row: &[u32],
+) -> Answer
+    requires { ⌜ CorridorFits (now corridor) links ⌝ }
+    requires { ⌜ (k ≤ 1440) × RowFor test (now row) links ⌝ }
+    ensures { λ r. ⌜ r ≡ firstNode (suc links) k (nodeFaultIn test (now (corridor .entry)) links (now (row .entry))) ⌝ }
 {
     let nodes = links + 1;
     let mut i = 0;
     while i < nodes {
-        let number = plan_number(corridor, row, i);
-        if number != 0 {
-            return Answer::Refused {
-                number,
-                row: k as u32,
-                node: i as u32,
-            };
+        let answer = node_answer(test, k, corridor, links, row, i);
+        if is_refused(answer) {
+            return answer;
         }
         i += 1;
     }
     Answer::Accepted
 }
 
-// The first step and node with refusal 6.
-pub fn scan_plan(corridor: &[u32], plan: &[u32], links: usize, steps: usize) -> Answer
+// Refusals 2 to 4, each over all nodes before the next.
+pub fn scan_corridor(corridor: &[u32], links: usize) -> Answer
     requires { ⌜ CorridorFits (now corridor) links ⌝ }
-    requires { ⌜ (steps ≤ 1440) × (length (now plan) ≡ planLength links steps) ⌝ }
-    ensures { λ r. ⌜ r ≡ firstPlace steps (suc links) (planFaultAt (now (corridor .entry)) (now (plan .entry)) links) ⌝ }
+    ensures { λ r. ⌜ r ≡ corridorRefusal (now (corridor .entry)) links ⌝ }
+{
+    let link = scan_nodes(NodeTest::Link, 0, corridor, links, corridor);
+    if is_refused(link) {
+        return link;
+    }
+    let ramp = scan_nodes(NodeTest::Ramp, 0, corridor, links, corridor);
+    if is_refused(ramp) {
+        return ramp;
+    }
+    scan_nodes(NodeTest::Start, 0, corridor, links, corridor)
+}
+
+// The first node that a test refuses in row k of a list whose rows begin after `skip` words.
+fn scan_row(
+    test: NodeTest,
+    k: usize,
+    corridor: &[u32],
+    links: usize,
+    steps: usize,
+    list: &[u32],
+    skip: usize,
+) -> Answer
+    requires { ⌜ CorridorFits (now corridor) links ⌝ }
+    requires { ⌜ (k < steps) × (steps ≤ 1440) × (skip ≤ 1) × (length (now list) ≡ skip + steps * (suc links * 2)) ⌝ }
+    ensures { λ r. ⌜ r ≡ firstNode (suc links) k (nodeFaultAt test (now (corridor .entry)) links skip (now (list .entry)) k) ⌝ }
 {
     let width = (links + 1) * 2;
+    let at = skip + row_at(k, width, steps);
+    let end = at + width;
+    scan_nodes(test, k, corridor, links, &list[at..end])
+}
+
+// The first row and node that a test refuses, in a list whose rows begin after `skip` words.
+fn scan_rows(
+    test: NodeTest,
+    corridor: &[u32],
+    links: usize,
+    steps: usize,
+    list: &[u32],
+    skip: usize,
+) -> Answer
+    requires { ⌜ CorridorFits (now corridor) links ⌝ }
+    requires { ⌜ (steps ≤ 1440) × (skip ≤ 1) × (length (now list) ≡ skip + steps * (suc links * 2)) ⌝ }
+    ensures { λ r. ⌜ r ≡ firstPlace steps (suc links) (nodeFaultAt test (now (corridor .entry)) links skip (now (list .entry))) ⌝ }
+{
     let mut k = 0;
     while k < steps {
-        let at = row_at(k, width, steps);
-        let end = at + width;
-        let answer = plan_row(k, corridor, links, &plan[at..end]);
-        if let Answer::Refused {
-            number: _,
-            row: _,
-            node: _,
-        } = answer {
+        let answer = scan_row(test, k, corridor, links, steps, list, skip);
+        if is_refused(answer) {
             return answer;
         }
         k += 1;
@@ -305,26 +257,18 @@ pub fn ranges(corridor: &[u32], demands: &[u32]) -> Answer
 {
     let links = words::links_of(corridor);
     let answer = scan_corridor(corridor, links);
-    if let Answer::Refused {
-        number: _,
-        row: _,
-        node: _,
-    } = answer {
+    if is_refused(answer) {
         return answer;
     }
-    scan_demands(demands, links, words::steps_of(demands))
+    scan_rows(NodeTest::Demand, corridor, links, words::steps_of(demands), demands, 1)
 }
 
 // The first refusal of 6.
 pub fn bounds(corridor: &[u32], demands: &[u32], plan: &[u32]) -> Answer
     requires { ⌜ sizes (now corridor) (now demands) ≡ true ⌝ }
     requires { ⌜ length (now plan) ≡ planLength (linksOf (now corridor)) (stepsOf (now demands)) ⌝ }
-    ensures { λ r. ⌜ r ≡ bounds (roadOf (now (corridor .entry)) (now (demands .entry))) (planOf (roadOf (now (corridor .entry)) (now (demands .entry))) (now (plan .entry))) ⌝ }
+    ensures { λ r. ⌜ r ≡ planBounds (now (corridor .entry)) (now (demands .entry)) (now (plan .entry)) ⌝ }
 {
-    scan_plan(
-        corridor,
-        plan,
-        words::links_of(corridor),
-        words::steps_of(demands),
-    )
+    let links = words::links_of(corridor);
+    scan_rows(NodeTest::Plan, corridor, links, words::steps_of(demands), plan, 0)
 }

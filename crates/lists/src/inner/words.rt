@@ -2,12 +2,12 @@
 ghost use mathlib.Core.Path.{_≡_};
 ghost use mathlib.Core.List.{List};
 ghost use Prim.Native.Nat.{ℕ, _+_, _*_, _≤_, _<_};
-ghost use lib.ListN.{length, getD};
+ghost use lib.ListN.{getD};
 ghost use Rattle.road.specs.Run.{supply, junction};
 ghost use Rattle.road.specs.Values.{linkOf, rampOf, stateOf, junctionOf, flowsOf};
-ghost use Rattle.lists.specs.Words.{linksOf, stepsOf, nodeAt, corridorWord};
+ghost use Rattle.lists.specs.Words.{linksOf, stepsOf, nodeAt, corridorWord, recordWidth, Width, free};
 ghost use Rattle.lists.specs.Rows.{stateIn, flowsIn, stepRoad};
-ghost use Rattle.lists.specs.Fits.{CorridorFits, RowFits, JamKept};
+ghost use Rattle.lists.specs.Fits.{CorridorFits, NodeFits, RowFits, NodeIn, JamKept};
 use road::Flows;
 use road::Junction;
 use road::Link;
@@ -43,7 +43,7 @@ pub fn steps_of(demands: &[u32]) -> usize
 
 // Word q of node i in the corridor's list.
 fn node_word(corridor: &[u32], i: usize, q: usize) -> u32
-    requires { ⌜ 1 + (i * 9 + 9) ≤ length (now corridor) ⌝ }
+    requires { ⌜ NodeFits (now corridor) i ⌝ }
     requires { ⌜ q < 9 ⌝ }
     ensures { λ r. ⌜ r ≡ corridorWord (now (corridor .entry)) i q ⌝ }
 {
@@ -52,7 +52,7 @@ fn node_word(corridor: &[u32], i: usize, q: usize) -> u32
 
 // Word q of node i in a row that has `width` words for each node.
 fn row_word(row: &[u32], width: usize, i: usize, q: usize) -> u32
-    requires { ⌜ i * width + width ≤ length (now row) ⌝ }
+    requires { ⌜ NodeIn width (now row) i ⌝ }
     requires { ⌜ q < width ⌝ }
     ensures { λ r. ⌜ r ≡ getD (now (row .entry)) (i * width + q) 0 ⌝ }
 {
@@ -61,7 +61,7 @@ fn row_word(row: &[u32], width: usize, i: usize, q: usize) -> u32
 
 // The identifier of node i.
 pub fn identifier_at(corridor: &[u32], i: usize) -> u32
-    requires { ⌜ 1 + (i * 9 + 9) ≤ length (now corridor) ⌝ }
+    requires { ⌜ NodeFits (now corridor) i ⌝ }
     ensures { λ r. ⌜ r ≡ nodeAt (now (corridor .entry)) i .identifier ⌝ }
 {
     node_word(corridor, i, 0)
@@ -69,7 +69,7 @@ pub fn identifier_at(corridor: &[u32], i: usize) -> u32
 
 // Link i.
 pub fn link_at(corridor: &[u32], i: usize) -> Link
-    requires { ⌜ 1 + (i * 9 + 9) ≤ length (now corridor) ⌝ }
+    requires { ⌜ NodeFits (now corridor) i ⌝ }
     ensures { λ r. ⌜ linkOf r ≡ nodeAt (now (corridor .entry)) i .link ⌝ }
 {
     Link {
@@ -82,7 +82,7 @@ pub fn link_at(corridor: &[u32], i: usize) -> Link
 
 // Ramp i.
 pub fn ramp_at(corridor: &[u32], i: usize) -> Ramp
-    requires { ⌜ 1 + (i * 9 + 9) ≤ length (now corridor) ⌝ }
+    requires { ⌜ NodeFits (now corridor) i ⌝ }
     ensures { λ r. ⌜ rampOf r ≡ nodeAt (now (corridor .entry)) i .ramp ⌝ }
 {
     Ramp {
@@ -93,7 +93,7 @@ pub fn ramp_at(corridor: &[u32], i: usize) -> Ramp
 
 // The state that node i starts in.
 pub fn start_at(corridor: &[u32], i: usize) -> NodeState
-    requires { ⌜ 1 + (i * 9 + 9) ≤ length (now corridor) ⌝ }
+    requires { ⌜ NodeFits (now corridor) i ⌝ }
     ensures { λ r. ⌜ stateOf r ≡ nodeAt (now (corridor .entry)) i .start ⌝ }
 {
     NodeState {
@@ -102,31 +102,38 @@ pub fn start_at(corridor: &[u32], i: usize) -> NodeState
     }
 }
 
+// How many words a node has in a record.
+pub fn record_width() -> usize
+    ensures { λ r. ⌜ (r ≡ recordWidth) × Width r ⌝ }
+{
+    4
+}
+
 // The state of node i in a record's row.
-pub fn state_at(row: &[u32], i: usize) -> NodeState
-    requires { ⌜ i * 4 + 4 ≤ length (now row) ⌝ }
-    ensures { λ r. ⌜ stateOf r ≡ stateIn (now (row .entry)) i ⌝ }
+pub fn state_at(row: &[u32], width: usize, i: usize) -> NodeState
+    requires { ⌜ Width width × NodeIn width (now row) i ⌝ }
+    ensures { λ r. ⌜ stateOf r ≡ stateIn width (now (row .entry)) i ⌝ }
 {
     NodeState {
-        vehicles: Units(row_word(row, 4, i, 0)),
-        queue: Units(row_word(row, 4, i, 1)),
+        vehicles: Units(row_word(row, width, i, 0)),
+        queue: Units(row_word(row, width, i, 1)),
     }
 }
 
 // The flows of node i in a record's row.
-pub fn flows_at(row: &[u32], i: usize) -> Flows
-    requires { ⌜ i * 4 + 4 ≤ length (now row) ⌝ }
-    ensures { λ r. ⌜ flowsOf r ≡ flowsIn (now (row .entry)) i ⌝ }
+pub fn flows_at(row: &[u32], width: usize, i: usize) -> Flows
+    requires { ⌜ Width width × NodeIn width (now row) i ⌝ }
+    ensures { λ r. ⌜ flowsOf r ≡ flowsIn width (now (row .entry)) i ⌝ }
 {
     Flows {
-        main: Units(row_word(row, 4, i, 2)),
-        ramp: Units(row_word(row, 4, i, 3)),
+        main: Units(row_word(row, width, i, 2)),
+        ramp: Units(row_word(row, width, i, 3)),
     }
 }
 
 // The arrivals of node i in a row of the demands.
 pub fn arrivals_at(row: &[u32], i: usize) -> Units
-    requires { ⌜ i * 2 + 2 ≤ length (now row) ⌝ }
+    requires { ⌜ NodeIn 2 (now row) i ⌝ }
     ensures { λ r. ⌜ r .0 ≡ getD (now (row .entry)) (i * 2 + 0) 0 ⌝ }
 {
     Units(row_word(row, 2, i, 0))
@@ -134,7 +141,7 @@ pub fn arrivals_at(row: &[u32], i: usize) -> Units
 
 // The split of node i in a row of the demands.
 pub fn split_at(row: &[u32], i: usize) -> Parts
-    requires { ⌜ i * 2 + 2 ≤ length (now row) ⌝ }
+    requires { ⌜ NodeIn 2 (now row) i ⌝ }
     ensures { λ r. ⌜ r .0 ≡ getD (now (row .entry)) (i * 2 + 1) 0 ⌝ }
 {
     Parts(row_word(row, 2, i, 1))
@@ -142,7 +149,7 @@ pub fn split_at(row: &[u32], i: usize) -> Parts
 
 // The metering rate of node i in a row of the plan.
 pub fn rate_at(row: &[u32], i: usize) -> Units
-    requires { ⌜ i * 2 + 2 ≤ length (now row) ⌝ }
+    requires { ⌜ NodeIn 2 (now row) i ⌝ }
     ensures { λ r. ⌜ r .0 ≡ getD (now (row .entry)) (i * 2 + 0) 0 ⌝ }
 {
     Units(row_word(row, 2, i, 0))
@@ -150,26 +157,40 @@ pub fn rate_at(row: &[u32], i: usize) -> Units
 
 // The posted limit of node i in a row of the plan.
 pub fn limit_at(row: &[u32], i: usize) -> Speed
-    requires { ⌜ i * 2 + 2 ≤ length (now row) ⌝ }
+    requires { ⌜ NodeIn 2 (now row) i ⌝ }
     ensures { λ r. ⌜ r .0 ≡ getD (now (row .entry)) (i * 2 + 1) 0 ⌝ }
 {
     Speed(row_word(row, 2, i, 1))
 }
 
-// What the merge of node i may pass on, in the state that a record's row gives: no demand has a part in it.
-pub fn supply_at(corridor: &[u32], links: usize, state: &[u32], i: usize) -> Units
+// What may pass beyond link N in a step.
+pub fn downstream() -> Units
+    ensures { λ r. ⌜ r .0 ≡ free ⌝ }
+{
+    Units(65536)
+}
+
+// What the merge of node i may pass on, in the state that a record's row gives: no arrival and no split has a part in it.
+pub fn supply_at(
+    corridor: &[u32],
+    links: usize,
+    downstream: Units,
+    state: &[u32],
+    width: usize,
+    i: usize,
+) -> Units
     requires { ⌜ CorridorFits (now corridor) links ⌝ }
-    requires { ⌜ RowFits 4 (now state) links ⌝ }
-    requires { ⌜ JamKept (now corridor) (now state) links ⌝ }
+    requires { ⌜ Width width × RowFits width (now state) links ⌝ }
+    requires { ⌜ JamKept width (now corridor) (now state) links ⌝ }
     requires { ⌜ i ≤ links ⌝ }
-    ensures { λ r. ⌜ ((demand : List ℕ) → r .0 ≡ supply (stepRoad (now (corridor .entry)) demand) 0 (stateIn (now (state .entry))) i) ⌝ }
+    ensures { λ r. ⌜ ((demand : List ℕ) → r .0 ≡ supply (stepRoad (now (corridor .entry)) demand (downstream .0)) 0 (stateIn width (now (state .entry))) i) ⌝ }
 {
     if i < links {
         let link = link_at(corridor, i + 1);
-        let next = state_at(state, i + 1);
+        let next = state_at(state, width, i + 1);
         return road::inner::receiving(link, next.vehicles);
     }
-    Units(65536)
+    downstream
 }
 
 // What rules 1 to 5 ask of node i at a step, whose rows of the demands and of the record are lent.
@@ -177,21 +198,23 @@ pub fn junction_at(
     corridor: &[u32],
     links: usize,
     demand: &[u32],
+    downstream: Units,
     state: &[u32],
+    width: usize,
     i: usize,
 ) -> Junction
     requires { ⌜ CorridorFits (now corridor) links ⌝ }
     requires { ⌜ RowFits 2 (now demand) links ⌝ }
-    requires { ⌜ RowFits 4 (now state) links ⌝ }
-    requires { ⌜ JamKept (now corridor) (now state) links ⌝ }
+    requires { ⌜ Width width × RowFits width (now state) links ⌝ }
+    requires { ⌜ JamKept width (now corridor) (now state) links ⌝ }
     requires { ⌜ i ≤ links ⌝ }
-    ensures { λ r. ⌜ junctionOf r ≡ junction (stepRoad (now (corridor .entry)) (now (demand .entry))) 0 (stateIn (now (state .entry))) i ⌝ }
+    ensures { λ r. ⌜ junctionOf r ≡ junction (stepRoad (now (corridor .entry)) (now (demand .entry)) (downstream .0)) 0 (stateIn width (now (state .entry))) i ⌝ }
 {
     Junction {
         link: link_at(corridor, i),
         ramp: ramp_at(corridor, i),
-        state: state_at(state, i),
+        state: state_at(state, width, i),
         split: split_at(demand, i),
-        supply: supply_at(corridor, links, state, i),
+        supply: supply_at(corridor, links, downstream, state, width, i),
     }
 }

@@ -1,24 +1,24 @@
 // One step on its rows: from a state's row to the record's row and to the next state's row.
 ghost use mathlib.Core.Path.{_≡_};
 ghost use mathlib.Core.List.{[]};
-ghost use Prim.Native.Nat.{ℕ, _+_, _*_, _≤_, _<_};
-ghost use lib.ListN.{length};
+ghost use Prim.Native.Nat.{ℕ, _+_, _≤_};
 ghost use Rattle.road.specs.Run.{inflow, next};
 ghost use Rattle.road.specs.Values.{stateOf, flowsOf};
+ghost use Rattle.lists.specs.Words.{Width};
 ghost use Rattle.lists.specs.Rows.{stateIn, flowsIn, stepRoad};
-ghost use Rattle.lists.specs.Fits.{CorridorFits, RowFits};
-ghost use Rattle.simulate.specs.Rows.{putNode, startRow, rowFlows, flowRow, nextRow, rowCost, StepKept, RowKept};
+ghost use Rattle.lists.specs.Fits.{CorridorFits, RowFits, NodeIn};
+ghost use Rattle.simulate.specs.Rows.{putNode, startRow, rowFlows, flowRow, nextRow, rowCost, RowKept, RowsFit, Stepped};
 use lists::inner::words;
 use road::Flows;
 use road::NodeState;
 use road::Units;
 
 // The words of node i, stored in a row.
-fn put_node(row: &mut [u32], i: usize, state: NodeState, flows: Flows)
-    requires { ⌜ i * 4 + 4 ≤ length (now row) ⌝ }
-    ensures { λ _. ⌜ now (row .exit) ≡ putNode (now (row .entry)) i (stateOf state) (flowsOf flows) ⌝ }
+fn put_node(row: &mut [u32], width: usize, i: usize, state: NodeState, flows: Flows)
+    requires { ⌜ Width width × NodeIn width (now row) i ⌝ }
+    ensures { λ _. ⌜ now (row .exit) ≡ putNode width (now (row .entry)) i (stateOf state) (flowsOf flows) ⌝ }
 {
-    let at = i * 4;
+    let at = i * width;
     row[at] = state.vehicles.0;
     row[at + 1] = state.queue.0;
     row[at + 2] = flows.main.0;
@@ -26,16 +26,17 @@ fn put_node(row: &mut [u32], i: usize, state: NodeState, flows: Flows)
 }
 
 // The row of the corridor's start.
-pub fn start_row(corridor: &[u32], links: usize, row: &mut [u32])
+pub fn start_row(corridor: &[u32], links: usize, row: &mut [u32], width: usize)
     requires { ⌜ CorridorFits (now corridor) links ⌝ }
-    requires { ⌜ RowFits 4 (now row) links ⌝ }
-    ensures { λ _. ⌜ now (row .exit) ≡ startRow (now (corridor .entry)) links ⌝ }
+    requires { ⌜ Width width × RowFits width (now row) links ⌝ }
+    ensures { λ _. ⌜ now (row .exit) ≡ startRow width (now (corridor .entry)) links ⌝ }
 {
     let nodes = links + 1;
     let mut i: usize = 0;
     while i < nodes {
         put_node(
             row,
+            width,
             i,
             words::start_at(corridor, i),
             Flows {
@@ -52,16 +53,17 @@ fn plan_flows(
     corridor: &[u32],
     links: usize,
     demand: &[u32],
+    downstream: Units,
     plan: &[u32],
     state: &[u32],
+    width: usize,
     i: usize,
 ) -> Flows
-    requires { ⌜ (CorridorFits (now corridor) links) × (RowFits 2 (now demand) links) × (RowFits 2 (now plan) links) × (RowFits 4 (now state) links) ⌝ }
-    requires { ⌜ ((j : ℕ) → j ≤ links → StepKept (now corridor) (now demand) (now plan) (now state) j) ⌝ }
+    requires { ⌜ RowsFit width (now corridor) (now demand) (now plan) (now state) links ⌝ }
     requires { ⌜ i ≤ links ⌝ }
-    ensures { λ r. ⌜ flowsOf r ≡ rowFlows (now (corridor .entry)) (now (demand .entry)) (now (plan .entry)) (now (state .entry)) i ⌝ }
+    ensures { λ r. ⌜ flowsOf r ≡ rowFlows width (now (corridor .entry)) (now (demand .entry)) (downstream .0) (now (plan .entry)) (now (state .entry)) i ⌝ }
 {
-    let junction = words::junction_at(corridor, links, demand, state, i);
+    let junction = words::junction_at(corridor, links, demand, downstream, state, width, i);
     road::inner::flows_with(junction, words::rate_at(plan, i), words::limit_at(plan, i))
 }
 
@@ -70,65 +72,67 @@ pub fn flow_row(
     corridor: &[u32],
     links: usize,
     demand: &[u32],
+    downstream: Units,
     plan: &[u32],
     state: &[u32],
     row: &mut [u32],
+    width: usize,
 )
-    requires { ⌜ (CorridorFits (now corridor) links) × (RowFits 2 (now demand) links) × (RowFits 2 (now plan) links) × (RowFits 4 (now state) links) ⌝ }
-    requires { ⌜ ((j : ℕ) → j ≤ links → StepKept (now corridor) (now demand) (now plan) (now state) j) ⌝ }
-    requires { ⌜ RowFits 4 (now row) links ⌝ }
-    ensures { λ _. ⌜ now (row .exit) ≡ flowRow (now (corridor .entry)) links (now (demand .entry)) (now (plan .entry)) (now (state .entry)) ⌝ }
+    requires { ⌜ RowsFit width (now corridor) (now demand) (now plan) (now state) links ⌝ }
+    requires { ⌜ RowFits width (now row) links ⌝ }
+    ensures { λ _. ⌜ now (row .exit) ≡ flowRow width (now (corridor .entry)) links (now (demand .entry)) (downstream .0) (now (plan .entry)) (now (state .entry)) ⌝ }
 {
     let nodes = links + 1;
     let mut i: usize = 0;
     while i < nodes {
-        let flows = plan_flows(corridor, links, demand, plan, state, i);
-        put_node(row, i, words::state_at(state, i), flows);
+        let flows = plan_flows(corridor, links, demand, downstream, plan, state, width, i);
+        put_node(row, width, i, words::state_at(state, width, i), flows);
         i += 1;
     }
 }
 
 // What link i gains.
-fn inflow_at(demand: &[u32], row: &[u32], links: usize, i: usize) -> Units
-    requires { ⌜ (RowFits 2 (now demand) links) × (RowFits 4 (now row) links) × (i ≤ links) ⌝ }
-    requires { ⌜ ((j : ℕ) → j ≤ links → RowKept (now demand) (now row) j) ⌝ }
-    ensures { λ r. ⌜ (r .0 ≡ inflow (stepRoad [] (now (demand .entry))) 0 (flowsIn (now (row .entry))) i) × (r .0 ≤ 228655104) ⌝ }
+fn inflow_at(demand: &[u32], row: &[u32], width: usize, links: usize, i: usize) -> Units
+    requires { ⌜ (RowFits 2 (now demand) links) × (RowFits width (now row) links) × Width width × (i ≤ links) ⌝ }
+    requires { ⌜ ((j : ℕ) → j ≤ links → RowKept width (now demand) (now row) j) ⌝ }
+    ensures { λ r. ⌜ (r .0 ≡ inflow (stepRoad [] (now (demand .entry)) 0) 0 (flowsIn width (now (row .entry))) i) × (r .0 ≤ 228655104) ⌝ }
 {
     if i == 0 {
         return Units(0);
     }
     let from = i - 1;
-    road::inner::outflow(words::flows_at(row, from), words::split_at(demand, from))
+    road::inner::outflow(words::flows_at(row, width, from), words::split_at(demand, from))
 }
 
 // The next state of node i.
-fn moved_at(demand: &[u32], row: &[u32], links: usize, i: usize) -> NodeState
-    requires { ⌜ (RowFits 2 (now demand) links) × (RowFits 4 (now row) links) × (i ≤ links) ⌝ }
-    requires { ⌜ ((j : ℕ) → j ≤ links → RowKept (now demand) (now row) j) ⌝ }
-    ensures { λ r. ⌜ stateOf r ≡ next (stepRoad [] (now (demand .entry))) 0 (stateIn (now (row .entry))) (flowsIn (now (row .entry))) i ⌝ }
+fn moved_at(demand: &[u32], row: &[u32], width: usize, links: usize, i: usize) -> NodeState
+    requires { ⌜ (RowFits 2 (now demand) links) × (RowFits width (now row) links) × Width width × (i ≤ links) ⌝ }
+    requires { ⌜ ((j : ℕ) → j ≤ links → RowKept width (now demand) (now row) j) ⌝ }
+    ensures { λ r. ⌜ stateOf r ≡ next (stepRoad [] (now (demand .entry)) 0) 0 (stateIn width (now (row .entry))) (flowsIn width (now (row .entry))) i ⌝ }
 {
-    let inflow = inflow_at(demand, row, links, i);
+    let inflow = inflow_at(demand, row, width, links, i);
     road::inner::moved(
-        words::state_at(row, i),
+        words::state_at(row, width, i),
         inflow,
         words::arrivals_at(demand, i),
-        words::flows_at(row, i),
+        words::flows_at(row, width, i),
     )
 }
 
 // The next state's row.
-pub fn next_row(links: usize, demand: &[u32], row: &[u32], state: &mut [u32])
-    requires { ⌜ (RowFits 2 (now demand) links) × (RowFits 4 (now row) links) × (RowFits 4 (now state) links) × (links ≤ 64) ⌝ }
-    requires { ⌜ ((j : ℕ) → j ≤ links → RowKept (now demand) (now row) j) ⌝ }
-    ensures { λ _. ⌜ now (state .exit) ≡ nextRow links (now (demand .entry)) (now (row .entry)) ⌝ }
+pub fn next_row(links: usize, demand: &[u32], row: &[u32], state: &mut [u32], width: usize)
+    requires { ⌜ (RowFits 2 (now demand) links) × (RowFits width (now row) links) × (RowFits width (now state) links) × Width width × (links ≤ 64) ⌝ }
+    requires { ⌜ ((j : ℕ) → j ≤ links → RowKept width (now demand) (now row) j) ⌝ }
+    ensures { λ _. ⌜ now (state .exit) ≡ nextRow width links (now (demand .entry)) (now (row .entry)) ⌝ }
 {
     let nodes = links + 1;
     let mut i: usize = 0;
     while i < nodes {
         put_node(
             state,
+            width,
             i,
-            moved_at(demand, row, links, i),
+            moved_at(demand, row, width, links, i),
             Flows {
                 main: Units(0),
                 ramp: Units(0),
@@ -139,24 +143,24 @@ pub fn next_row(links: usize, demand: &[u32], row: &[u32], state: &mut [u32])
 }
 
 // The vehicles and the queue of node i.
-fn node_cost(row: &[u32], i: usize) -> u64
-    requires { ⌜ i * 4 + 4 ≤ length (now row) ⌝ }
-    ensures { λ r. ⌜ (r ≡ stateIn (now (row .entry)) i .vehicles + stateIn (now (row .entry)) i .queue) × (r ≤ 8589934590) ⌝ }
+fn node_cost(row: &[u32], width: usize, i: usize) -> u64
+    requires { ⌜ Width width × NodeIn width (now row) i ⌝ }
+    ensures { λ r. ⌜ (r ≡ stateIn width (now (row .entry)) i .vehicles + stateIn width (now (row .entry)) i .queue) × (r ≤ 8589934590) ⌝ }
 {
-    let state = words::state_at(row, i);
+    let state = words::state_at(row, width, i);
     (state.vehicles.0 as u64) + (state.queue.0 as u64)
 }
 
 // The vehicles and queues of a row.
-pub fn row_cost(links: usize, row: &[u32]) -> u64
-    requires { ⌜ (RowFits 4 (now row) links) × (links ≤ 64) ⌝ }
-    ensures { λ r. ⌜ (r ≡ rowCost links (now (row .entry))) × (r ≤ 558345748350) ⌝ }
+pub fn row_cost(links: usize, row: &[u32], width: usize) -> u64
+    requires { ⌜ (RowFits width (now row) links) × Width width × (links ≤ 64) ⌝ }
+    ensures { λ r. ⌜ (r ≡ rowCost width links (now (row .entry))) × (r ≤ 558345748350) ⌝ }
 {
     let nodes = links + 1;
     let mut total: u64 = 0;
     let mut i: usize = 0;
     while i < nodes {
-        total += node_cost(row, i);
+        total += node_cost(row, width, i);
         i += 1;
     }
     total
@@ -167,16 +171,17 @@ pub fn step(
     corridor: &[u32],
     links: usize,
     demand: &[u32],
+    downstream: Units,
     plan: &[u32],
     state: &mut [u32],
     row: &mut [u32],
+    width: usize,
 ) -> u64
-    requires { ⌜ (CorridorFits (now corridor) links) × (RowFits 2 (now demand) links) × (RowFits 2 (now plan) links) × (RowFits 4 (now state) links) ⌝ }
-    requires { ⌜ ((j : ℕ) → j ≤ links → StepKept (now corridor) (now demand) (now plan) (now state) j) ⌝ }
-    requires { ⌜ RowFits 4 (now row) links ⌝ }
-    ensures { λ r. ⌜ (now (row .exit) ≡ flowRow (now (corridor .entry)) links (now (demand .entry)) (now (plan .entry)) (now (state .entry))) × (now (state .exit) ≡ nextRow links (now (demand .entry)) (now (row .exit))) × (r ≡ rowCost links (now (state .exit))) × (r ≤ 558345748350) ⌝ }
+    requires { ⌜ RowsFit width (now corridor) (now demand) (now plan) (now state) links ⌝ }
+    requires { ⌜ RowFits width (now row) links ⌝ }
+    ensures { λ r. ⌜ Stepped width (now (corridor .entry)) links (now (demand .entry)) (downstream .0) (now (plan .entry)) (now (state .entry)) (now (row .exit)) (now (state .exit)) r ⌝ }
 {
-    flow_row(corridor, links, demand, plan, state, row);
-    next_row(links, demand, row, state);
-    row_cost(links, state)
+    flow_row(corridor, links, demand, downstream, plan, state, row, width);
+    next_row(links, demand, row, state, width);
+    row_cost(links, state, width)
 }

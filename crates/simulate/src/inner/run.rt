@@ -1,10 +1,10 @@
 // The run of all steps, row by row: into a record, or on the state alone.
 ghost use mathlib.Core.Path.{_≡_};
-ghost use Prim.Native.Nat.{suc, _+_, _*_, _≤_, _<_};
+ghost use Prim.Native.Nat.{_<_};
 ghost use lib.ListN.{length};
-ghost use Rattle.lists.specs.Words.{linksOf, stepsOf, traceLength, recordLength};
+ghost use Rattle.lists.specs.Words.{linksOf, stepsOf, recordWidth, Width, traceLength, recordLength};
 ghost use Rattle.lists.specs.Fits.{RowFits};
-ghost use Rattle.simulate.specs.Simulate.{Sound, stateRow, stepRow, stateCost, runCost, runWords, simulated};
+ghost use Rattle.simulate.specs.Simulate.{Sound, stateRow, runCost, Ran, RanAll, simulated};
 use crate::inner::rows;
 use lists::inner::scans;
 use lists::inner::words;
@@ -17,26 +17,29 @@ fn step_at(
     k: usize,
     state: &mut [u32],
     row: &mut [u32],
+    width: usize,
 ) -> u64
-    requires { ⌜ Sound (now corridor) (now demands) (now plan) ⌝ }
+    requires { ⌜ Sound (now corridor) (now demands) (now plan) × Width width ⌝ }
     requires { ⌜ k < stepsOf (now demands) ⌝ }
-    requires { ⌜ now state ≡ stateRow (now corridor) (now demands) (now plan) k ⌝ }
-    requires { ⌜ RowFits 4 (now row) (linksOf (now corridor)) ⌝ }
-    ensures { λ r. ⌜ (now (row .exit) ≡ stepRow (now (corridor .entry)) (now (demands .entry)) (now (plan .entry)) k) × (now (state .exit) ≡ stateRow (now (corridor .entry)) (now (demands .entry)) (now (plan .entry)) (suc k)) × (r ≡ stateCost (now (corridor .entry)) (now (demands .entry)) (now (plan .entry)) (suc k)) × (r ≤ 558345748350) ⌝ }
+    requires { ⌜ now state ≡ stateRow width (now corridor) (now demands) (now plan) k ⌝ }
+    requires { ⌜ RowFits width (now row) (linksOf (now corridor)) ⌝ }
+    ensures { λ r. ⌜ Ran width (now (corridor .entry)) (now (demands .entry)) (now (plan .entry)) k (now (row .exit)) (now (state .exit)) r ⌝ }
 {
     let links = words::links_of(corridor);
-    let width = (links + 1) * 2;
-    let at = scans::row_at(k, width, words::steps_of(demands));
-    let end = at + width;
+    let narrow = (links + 1) * 2;
+    let at = scans::row_at(k, narrow, words::steps_of(demands));
+    let end = at + narrow;
     let from = 1 + at;
-    let to = from + width;
+    let to = from + narrow;
     rows::step(
         corridor,
         links,
         &demands[from..to],
+        words::downstream(),
         &plan[at..end],
         state,
         row,
+        width,
     )
 }
 
@@ -47,17 +50,18 @@ pub fn run_state(
     plan: &[u32],
     state: &mut [u32],
     row: &mut [u32],
+    width: usize,
 ) -> u64
-    requires { ⌜ Sound (now corridor) (now demands) (now plan) ⌝ }
-    requires { ⌜ now state ≡ stateRow (now corridor) (now demands) (now plan) 0 ⌝ }
-    requires { ⌜ RowFits 4 (now row) (linksOf (now corridor)) ⌝ }
-    ensures { λ r. ⌜ (now (state .exit) ≡ stateRow (now (corridor .entry)) (now (demands .entry)) (now (plan .entry)) (stepsOf (now (demands .entry)))) × (r ≡ runCost (now (corridor .entry)) (now (demands .entry)) (now (plan .entry))) ⌝ }
+    requires { ⌜ Sound (now corridor) (now demands) (now plan) × Width width ⌝ }
+    requires { ⌜ now state ≡ stateRow width (now corridor) (now demands) (now plan) 0 ⌝ }
+    requires { ⌜ RowFits width (now row) (linksOf (now corridor)) ⌝ }
+    ensures { λ r. ⌜ (now (state .exit) ≡ stateRow width (now (corridor .entry)) (now (demands .entry)) (now (plan .entry)) (stepsOf (now (demands .entry)))) × (r ≡ runCost (now (corridor .entry)) (now (demands .entry)) (now (plan .entry))) ⌝ }
 {
     let steps = words::steps_of(demands);
     let mut total: u64 = 0;
     let mut k: usize = 0;
     while k < steps {
-        total += step_at(corridor, demands, plan, k, state, row);
+        total += step_at(corridor, demands, plan, k, state, row, width);
         k += 1;
     }
     total
@@ -82,52 +86,59 @@ fn run_steps(
     plan: &[u32],
     state: &mut [u32],
     states: &mut [u32],
+    width: usize,
 ) -> u64
-    requires { ⌜ Sound (now corridor) (now demands) (now plan) ⌝ }
-    requires { ⌜ now state ≡ stateRow (now corridor) (now demands) (now plan) 0 ⌝ }
-    requires { ⌜ length (now states) ≡ traceLength (linksOf (now corridor)) (stepsOf (now demands)) ⌝ }
-    ensures { λ r. ⌜ (now (states .exit) ≡ runWords (now (corridor .entry)) (now (demands .entry)) (now (plan .entry))) × (r ≡ runCost (now (corridor .entry)) (now (demands .entry)) (now (plan .entry))) × (r ≤ 804017877624000) ⌝ }
+    requires { ⌜ Sound (now corridor) (now demands) (now plan) × Width width ⌝ }
+    requires { ⌜ now state ≡ stateRow width (now corridor) (now demands) (now plan) 0 ⌝ }
+    requires { ⌜ length (now states) ≡ traceLength width (linksOf (now corridor)) (stepsOf (now demands)) ⌝ }
+    ensures { λ r. ⌜ RanAll width (now (corridor .entry)) (now (demands .entry)) (now (plan .entry)) (now (states .exit)) r ⌝ }
 {
-    let links = words::links_of(corridor);
     let steps = words::steps_of(demands);
-    let width = (links + 1) * 4;
+    let wide = scans::state_words(words::links_of(corridor), width);
     let count = steps + 1;
     let mut total: u64 = 0;
     let mut k: usize = 0;
     while k < steps {
-        let at = scans::row_at(k, width, count);
-        let end = at + width;
-        total += step_at(corridor, demands, plan, k, state, &mut states[at..end]);
+        let at = scans::row_at(k, wide, count);
+        let end = at + wide;
+        total += step_at(corridor, demands, plan, k, state, &mut states[at..end], width);
         k += 1;
     }
-    let last = scans::row_at(steps, width, count);
-    let past = last + width;
+    let last = scans::row_at(steps, wide, count);
+    let past = last + wide;
     copy_row(state, &mut states[last..past]);
     total
 }
 
 // The same from the corridor's start, with room for a state of 65 nodes.
-fn run_all(corridor: &[u32], demands: &[u32], plan: &[u32], states: &mut [u32]) -> u64
-    requires { ⌜ Sound (now corridor) (now demands) (now plan) ⌝ }
-    requires { ⌜ length (now states) ≡ traceLength (linksOf (now corridor)) (stepsOf (now demands)) ⌝ }
-    ensures { λ r. ⌜ (now (states .exit) ≡ runWords (now (corridor .entry)) (now (demands .entry)) (now (plan .entry))) × (r ≡ runCost (now (corridor .entry)) (now (demands .entry)) (now (plan .entry))) × (r ≤ 804017877624000) ⌝ }
+fn run_all(
+    corridor: &[u32],
+    demands: &[u32],
+    plan: &[u32],
+    states: &mut [u32],
+    width: usize,
+) -> u64
+    requires { ⌜ Sound (now corridor) (now demands) (now plan) × Width width ⌝ }
+    requires { ⌜ length (now states) ≡ traceLength width (linksOf (now corridor)) (stepsOf (now demands)) ⌝ }
+    ensures { λ r. ⌜ RanAll width (now (corridor .entry)) (now (demands .entry)) (now (plan .entry)) (now (states .exit)) r ⌝ }
 {
     let links = words::links_of(corridor);
-    let width = (links + 1) * 4;
+    let wide = scans::state_words(links, width);
     let mut room = [0u32; 260];
-    let state = &mut room[..width];
-    rows::start_row(corridor, links, state);
-    run_steps(corridor, demands, plan, state, states)
+    let state = &mut room[..wide];
+    rows::start_row(corridor, links, state, width);
+    run_steps(corridor, demands, plan, state, states, width)
 }
 
 // The whole record: the words of all states, then the cost.
 pub fn write_record(corridor: &[u32], demands: &[u32], plan: &[u32], output: &mut [u32])
     requires { ⌜ Sound (now corridor) (now demands) (now plan) ⌝ }
-    requires { ⌜ length (now output) ≡ recordLength (linksOf (now corridor)) (stepsOf (now demands)) ⌝ }
+    requires { ⌜ length (now output) ≡ recordLength recordWidth (linksOf (now corridor)) (stepsOf (now demands)) ⌝ }
     ensures { λ _. ⌜ now (output .exit) ≡ simulated (now (corridor .entry)) (now (demands .entry)) (now (plan .entry)) ⌝ }
 {
     let end = output.len() - 2;
-    let total = run_all(corridor, demands, plan, &mut output[..end]);
+    let width = words::record_width();
+    let total = run_all(corridor, demands, plan, &mut output[..end], width);
     output[end] = (total % 4294967296) as u32;
     output[end + 1] = (total / 4294967296) as u32;
 }

@@ -1,9 +1,11 @@
 -- By the words that are read.
 use borrow.Author.Needs.{needs}
+use Rattle.lists.specs.Scans.{nodeFault}
 use Rattle.lists.proofs.inner.scans.ramp_number.Statement.{statement}
 use Rattle.lists.proofs.inner.scans.ramp_number.Tie as tie
 
 returns : tie.Need-returns
+unfolding nodeFault
 returns c = simp (c .ramp-fault .ensures, c .before .fresh .ensures, c .before .before .ramp-at .ensures, c .before .before .before .identifier-at .ensures)
 
 pub ramp-number-spec : {M : Type 1} → statement M

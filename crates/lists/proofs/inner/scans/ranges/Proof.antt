@@ -1,7 +1,9 @@
 -- The first scan that refuses decides.
+use native.Mathlib.Omega.{arith}
 use borrow.Author.Needs.{needs}
+use Rattle.tables.proofs.Sets.{joins}
 use Rattle.lists.proofs.Scans.{ranges-stop, ranges-next}
-use Rattle.lists.proofs.Sizes.{corridor-fits, demands-fit}
+use Rattle.lists.proofs.Sizes.{corridor-fits, steps-few, demand-words}
 use Rattle.lists.proofs.inner.scans.ranges.Statement.{statement}
 use Rattle.lists.proofs.inner.scans.ranges.Tie as tie
 
@@ -11,9 +13,8 @@ ranges-spec =
     (tie.spec
     (λ c κs. search needs)
     (λ c κs. search corridor-fits)
-    (λ c. search needs)
-    (λ c. search ranges-stop)
-    (λ c. search needs)
     (λ c κs. search needs)
-    (λ c κs. search demands-fit)
-    (λ c. search ranges-next))
+    (λ c. search (ranges-stop, joins))
+    (λ c κs. search needs)
+    (λ c κs. (search corridor-fits, (search steps-few, omega arith, search demand-words)))
+    (λ c. search (ranges-next, joins)))

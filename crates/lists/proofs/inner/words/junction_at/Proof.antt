@@ -3,6 +3,7 @@ use borrow.Author.Needs.{needs}
 use denote.Ref.{now}
 use Rattle.road.specs.Run.{junction}
 use Rattle.lists.specs.Rows.{stepRoad}
+use Rattle.lists.proofs.Rows.{node-in}
 use Rattle.lists.proofs.inner.words.junction_at.Statement.{statement}
 use Rattle.lists.proofs.inner.words.junction_at.Tie as tie
 
@@ -18,4 +19,4 @@ returns c =
     )
 
 pub junction-at-spec : {M : Type 1} → statement M
-junction-at-spec = tie.close (tie.spec (λ c κs. search needs) (λ c κs. search needs) (λ c κs. search needs) (λ c κs. search needs) (λ c κs. search needs) returns)
+junction-at-spec = tie.close (tie.spec (λ c κs. search needs) (λ c κs. search needs) (λ c κs. search (needs, node-in)) (λ c κs. search needs) (λ c κs. search needs) returns)

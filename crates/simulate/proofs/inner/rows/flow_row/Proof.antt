@@ -9,21 +9,26 @@ use Rattle.simulate.proofs.inner.rows.flow_row.Statement.{statement}
 use Rattle.simulate.proofs.inner.rows.flow_row.Tie as tie
 
 abbrev Inv-loop : tie.InvT-loop
-Inv-loop corridor links demand plan state row₀ nodes i₀ row i = Written i links (stateIn state) (rowFlows corridor demand plan state) row₀ row
+Inv-loop corridor links demand downstream plan state row₀ width nodes i₀ row i =
+    Written width i links (stateIn width state) (rowFlows width corridor demand (downstream .0) plan state) row₀ row
 
 abbrev μ-loop : tie.MeasureT-loop
-μ-loop corridor links demand plan state row₀ nodes i₀ row i = links + 1 - i
+μ-loop corridor links demand downstream plan state row₀ width nodes i₀ row i = links + 1 - i
 
 plan-flows-requires : tie.Need-plan-flows-requires Inv-loop μ-loop
 plan-flows-requires c κs =
     let k = c .before .before .before .before .before .before .before in
-    (k .pre .0, (k .pre .1 .0, omega arith))
+    (k .pre .0, omega arith)
 
 loop-again : tie.Need-loop-again Inv-loop μ-loop
 loop-again c =
     let p = c .before .before in
     let f = p .before .before .before in
-    written-more _ _ _ _ _ _ _ _ _ (f .before .before .loop .inv) (omega arith) (p .before .state-at .ensures) (f .plan-flows .ensures) (p .put-node .ensures)
+    let k = f .before .before .before .before .before .before .before .before in
+    written-more _ _ _ _ _ _ _ _ _ _ (k .pre .0 .wide) (f .before .before .loop .inv) (omega arith) (p .before .state-at .ensures) (f .plan-flows .ensures) (p .put-node .ensures)
+
+add-i : tie.Need-add-i Inv-loop μ-loop
+add-i c = omega (arith, c .before .before .before .before .before .before .before .before .before .before .before .before .before .pre .0 .corridorFits .few)
 
 pub flow-row-spec : {M : Type 1} → statement M
 unfolding flowRow
@@ -37,7 +42,7 @@ flow-row-spec =
     plan-flows-requires
     (λ c κs. search writes)
     (λ c κs. search writes)
-    (λ c. search writes)
+    add-i
     (λ c. search writes)
     loop-again
     (λ c. search writes)

@@ -3,6 +3,7 @@ use native.Mathlib.Omega.{arith}
 use borrow.Author.Needs.{needs}
 use Rattle.road.specs.Run.{next}
 use Rattle.lists.specs.Rows.{stepRoad}
+use Rattle.lists.proofs.Rows.{node-in}
 use Rattle.simulate.proofs.Rows.{kept-moved}
 use Rattle.simulate.proofs.inner.rows.moved_at.Statement.{statement}
 use Rattle.simulate.proofs.inner.rows.moved_at.Tie as tie
@@ -12,7 +13,7 @@ moved-requires c κs =
     let a = c .before in
     let i = a .before .before in
     let k = i .before .before .before in
-    kept-moved _ _ _ (k .pre .1) _ (omega arith) _ (c .flows-at .ensures) _ _ _ (a .before .state-at .ensures) (i .inflow-at .ensures .1) (a .arrivals-at .ensures)
+    kept-moved _ _ _ _ (k .pre .1) _ (omega arith) _ (c .flows-at .ensures) _ _ _ (a .before .state-at .ensures) (i .inflow-at .ensures .1) (a .arrivals-at .ensures)
 
 returns : tie.Need-returns
 unfolding next stepRoad
@@ -25,8 +26,8 @@ moved-at-spec =
     tie.close
     (tie.spec
     (λ c κs. search needs)
+    (λ c κs. search (needs, node-in))
     (λ c κs. search needs)
-    (λ c κs. search needs)
-    (λ c κs. search needs)
+    (λ c κs. search (needs, node-in))
     moved-requires
     returns)

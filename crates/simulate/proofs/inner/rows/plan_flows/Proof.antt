@@ -8,13 +8,14 @@ use Rattle.simulate.proofs.inner.rows.plan_flows.Tie as tie
 junction-at-requires : tie.Need-junction-at-requires
 junction-at-requires c κs =
     let k = c .before .before .before .before in
-    (k .pre .0 .0, (k .pre .0 .1, (k .pre .0 .3, (kept-jam _ _ _ _ _ (k .pre .1 .0), k .pre .1 .1))))
+    let r = k .pre .0 in
+    (r .corridorFits, (r .demandFits, ((r .wide, r .stateFits), (kept-jam _ _ _ _ _ _ r, k .pre .1))))
 
 flows-with-requires : tie.Need-flows-with-requires
 flows-with-requires c κs =
     let j = c .before .before in
     let k = j .before .before .before .before .before in
-    kept-split _ _ _ _ _ _ _ (k .pre .1 .0) (k .pre .1 .1) (j .junction-at .ensures)
+    kept-split _ _ _ _ _ _ (k .pre .0) _ _ _ (k .pre .1) (j .junction-at .ensures)
 
 returns : tie.Need-returns
 unfolding rowFlows

@@ -4,15 +4,16 @@ use native.Mathlib.Omega.{arith}
 use Rattle.tables.proofs.Sum.{Summed}
 use Rattle.tables.proofs.Sets.{all}
 use Rattle.lists.specs.Rows.{stateIn}
+use Rattle.lists.proofs.Rows.{node-among}
 use Rattle.simulate.proofs.Rows.{row-summed}
 use Rattle.simulate.proofs.inner.rows.row_cost.Statement.{statement}
 use Rattle.simulate.proofs.inner.rows.row_cost.Tie as tie
 
 abbrev Inv-loop : tie.InvT-loop
-Inv-loop links row nodes total₀ i₀ total i = Summed i (links + 1) 8589934590 (λ j. stateIn row j .vehicles + stateIn row j .queue) total
+Inv-loop links row width nodes total₀ i₀ total i = Summed i (links + 1) 8589934590 (λ j. stateIn width row j .vehicles + stateIn width row j .queue) total
 
 abbrev μ-loop : tie.MeasureT-loop
-μ-loop links row nodes total₀ i₀ total i = links + 1 - i
+μ-loop links row width nodes total₀ i₀ total i = links + 1 - i
 
 pub row-cost-spec : {M : Type 1} → statement M
 row-cost-spec =
@@ -22,9 +23,9 @@ row-cost-spec =
     μ-loop
     (λ c. search all)
     (λ c. search all)
-    (λ c κs. search all)
+    (λ c κs. search (all, node-among))
     (λ c. search all)
     (λ c. search all)
     (λ c. search all)
     (λ c. search all)
-    (λ c. row-summed _ _ _ _ (c .before .loop .inv) (omega arith) (omega arith)))
+    (λ c. row-summed _ _ _ _ _ (c .before .loop .inv) (omega arith) (omega arith)))

@@ -8,7 +8,7 @@ next-row-requires : tie.Need-next-row-requires
 next-row-requires c κs =
     let f = c .before .before .before .before in
     let k = f .before .before .before .before .before .before .before .before in
-    (search needs, flow-moves _ _ _ _ _ _ (k .pre .1 .0) (f .flow-row .ensures))
+    ((search needs, search needs, search needs, k .pre .0 .wide, k .pre .0 .corridorFits .few), flow-moves _ _ _ _ _ _ _ (k .pre .0) _ (f .flow-row .ensures))
 
 pub step-spec : {M : Type 1} → statement M
 step-spec =

@@ -9,15 +9,15 @@ use Rattle.simulate.proofs.inner.run.run_state.Statement.{statement}
 use Rattle.simulate.proofs.inner.run.run_state.Tie as tie
 
 abbrev Inv-loop : tie.InvT-loop
-Inv-loop corridor demands plan state₀ row₀ steps total₀ k₀ state row total k = RanTo corridor demands plan k state total × RowFits 4 row (linksOf corridor)
+Inv-loop corridor demands plan state₀ row₀ width steps total₀ k₀ state row total k = RanTo width corridor demands plan k state total × RowFits width row (linksOf corridor)
 
 abbrev μ-loop : tie.MeasureT-loop
-μ-loop corridor demands plan state₀ row₀ steps total₀ k₀ state row total k = stepsOf demands - k
+μ-loop corridor demands plan state₀ row₀ width steps total₀ k₀ state row total k = stepsOf demands - k
 
 loop-holds : tie.Need-loop-holds Inv-loop μ-loop
 loop-holds c =
     let k = c .before .before .before .before .before .before in
-    (ran-begun _ _ _ _ (k .pre .1 .0), k .pre .1 .1)
+    (ran-begun _ _ _ _ _ (k .pre .1 .0), k .pre .1 .1)
 
 step-at-requires : tie.Need-step-at-requires Inv-loop μ-loop
 step-at-requires c κs =
@@ -27,29 +27,28 @@ step-at-requires c κs =
 
 add-total : tie.Need-add-total Inv-loop μ-loop
 add-total c =
-    let s = c .before .before .before .before in
-    let l = s .before .before .before .before in
+    let l = c .before .before .before .before .before .before .before .before in
     let k = l .before .before .before .before .before .before .before in
-    omega (arith, l .loop .inv .0 .low, l .loop .inv .0 .bound, s .step-at .ensures .3, k .pre .0 .steps)
+    omega (arith, l .loop .inv .0 .low, l .loop .inv .0 .bound, c .before .before .before .before .step-at .ensures .low, k .pre .0 .0 .steps)
 
 loop-again : tie.Need-loop-again Inv-loop μ-loop
 loop-again c =
     let s = c .before .before .before .before in
     let l = s .before .before .before .before in
     let e = s .step-at .ensures in
-    (ran-more _ _ _ _ _ _ _ _ (l .loop .inv .0) (omega (arith, l .before .steps-of .ensures)) (e .1) (e .2) (e .3), step-row-fits _ _ _ _ _ (e .0))
+    (ran-more _ _ _ _ _ _ _ _ _ (l .loop .inv .0) (omega (arith, l .before .steps-of .ensures)) _ e, step-row-fits _ _ _ _ _ _ (e .written))
 
 same-length : tie.Need-same-length Inv-loop μ-loop
 same-length c =
     let l = c .before in
     let k = l .before .before .before .before .before .before .before in
-    state-rows-even _ _ _ _ _ _ _ (l .loop .inv .0 .reached) (k .pre .1 .0)
+    state-rows-even _ _ _ _ _ _ _ _ (l .loop .inv .0 .reached) (k .pre .1 .0)
 
 returns : tie.Need-returns Inv-loop μ-loop
 returns c =
     let l = c .before in (
-      ran-state _ _ _ _ _ _ (l .loop .inv .0) (omega (arith, l .before .steps-of .ensures)),
-      ran-cost _ _ _ _ _ _ (l .loop .inv .0) (omega (arith, l .before .steps-of .ensures)),
+      ran-state _ _ _ _ _ _ _ (l .loop .inv .0) (omega (arith, l .before .steps-of .ensures)),
+      ran-cost _ _ _ _ _ _ _ (l .loop .inv .0) (omega (arith, l .before .steps-of .ensures)),
     )
 
 pub run-state-spec : {M : Type 1} → statement M

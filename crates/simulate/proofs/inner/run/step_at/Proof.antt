@@ -1,7 +1,7 @@
 -- Row k of the demands and row k of the plan lie within their lists, and a step on them is step k of the run.
 use native.Mathlib.Omega.{arith}
 use Rattle.tables.proofs.Sets.{all}
-use Rattle.simulate.proofs.Runs.{Inside, rows-inside, step-asked, step-gives-row, step-gives-state, step-gives-cost}
+use Rattle.simulate.proofs.Runs.{Inside, rows-inside, rows-fit, row-lent, step-ran}
 use Rattle.simulate.proofs.inner.run.step_at.Statement.{statement}
 use Rattle.simulate.proofs.inner.run.step_at.Tie as tie
 
@@ -11,27 +11,25 @@ inside : (c : tie.After-row-at)
 inside c =
     let n = c .before .before in
     let k = n .before .before .before .before .before .before in
-    rows-inside _ _ _ _ _ _ (k .pre .0) (n .links-of .ensures) (k .pre .1 .0) (c .row-at .ensures .0)
+    rows-inside _ (k .pre .0 .1) _ _ _ _ _ _ (k .pre .0 .0) (n .links-of .ensures) (k .pre .1 .0) (c .row-at .ensures .0)
 
 step-requires : tie.Need-step-requires
 step-requires c κs =
-    let r = c .before .before .before .before in
+    let r = c .before .before .before .before .before in
     let n = r .before .before in
-    let k = n .before .before .before .before .before .before in
-    step-asked _ _ _ _ _ _ (k .pre .0) (n .links-of .ensures) (k .pre .1 .0) (r .row-at .ensures .0) _ (k .pre .1 .1 .0) (k .args .row .now) (k .pre .1 .1 .1)
+    let k = n .before .before .before .before .before .before in (
+      rows-fit _ (k .pre .0 .1) _ _ _ _ _ _ (k .pre .0 .0) (n .links-of .ensures) (k .pre .1 .0) (r .row-at .ensures .0) _ (k .pre .1 .1 .0),
+      row-lent _ _ (k .args .row .now) _ (n .links-of .ensures) (k .pre .1 .1 .1),
+    )
 
 returns : tie.Need-returns
 returns c =
     let s = c .before .before .before .before in
-    let r = s .before .before .before .before .before in
+    let d = s .before .before .before .before in
+    let r = d .before .before in
     let n = r .before .before in
     let k = n .before .before .before .before .before .before in
-    let e = s .step .ensures in (
-      step-gives-row _ _ _ _ _ _ (k .pre .0) (n .links-of .ensures) (k .pre .1 .0) (r .row-at .ensures .0) _ (k .pre .1 .1 .0) _ _ _ (e .0) (e .1) (e .2),
-      step-gives-state _ _ _ _ _ _ (k .pre .0) (n .links-of .ensures) (k .pre .1 .0) (r .row-at .ensures .0) _ (k .pre .1 .1 .0) _ _ _ (e .0) (e .1) (e .2),
-      step-gives-cost _ _ _ _ _ _ (k .pre .0) (n .links-of .ensures) (k .pre .1 .0) (r .row-at .ensures .0) _ (k .pre .1 .1 .0) _ _ _ (e .0) (e .1) (e .2),
-      e .3,
-    )
+    step-ran _ (k .pre .0 .1) _ _ _ _ _ _ (k .pre .0 .0) (n .links-of .ensures) (k .pre .1 .0) (r .row-at .ensures .0) _ (k .pre .1 .1 .0) _ (d .downstream .ensures) _ _ _ (s .step .ensures)
 
 pub step-at-spec : {M : Type 1} → statement M
 step-at-spec =
@@ -49,10 +47,11 @@ step-at-spec =
     (λ c. search all)
     (λ c. search all)
     (λ c. omega (arith, inside c))
-    (λ c. omega (arith, inside (c .before)))
+    (λ c κs. search all)
+    (λ c. omega (arith, inside (c .before .before)))
     (λ c. search all)
     (λ c. search all)
-    (λ c. omega (arith, inside (c .before)))
+    (λ c. omega (arith, inside (c .before .before)))
     step-requires
     (λ c. search all)
     (λ c. search all)

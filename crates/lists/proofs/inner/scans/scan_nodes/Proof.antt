@@ -4,19 +4,19 @@ use Rattle.tables.specs.Answer.{refusal}
 use borrow.Author.Needs.{needs}
 use Rattle.tables.proofs.First.{Passed}
 use Rattle.tables.proofs.Sets.{scans}
-use Rattle.lists.specs.Scans.{demandFaultIn}
+use Rattle.lists.specs.Scans.{nodeFaultIn}
 use Rattle.lists.proofs.Scans.{nodes-stop, nodes-ended}
-use Rattle.lists.proofs.inner.scans.demand_row.Statement.{statement}
-use Rattle.lists.proofs.inner.scans.demand_row.Tie as tie
+use Rattle.lists.proofs.inner.scans.scan_nodes.Statement.{statement}
+use Rattle.lists.proofs.inner.scans.scan_nodes.Tie as tie
 
 abbrev Inv-loop : tie.InvT-loop
-Inv-loop k links row nodes i₀ i = Passed i nodes (λ j. refusal (demandFaultIn links row j) k j)
+Inv-loop test k corridor links row nodes i₀ i = Passed i nodes (λ j. refusal (nodeFaultIn test corridor links row j) k j)
 
 abbrev μ-loop : tie.MeasureT-loop
-μ-loop k links row nodes i₀ i = nodes - i
+μ-loop test k corridor links row nodes i₀ i = nodes - i
 
-pub demand-row-spec : {M : Type 1} → statement M
-demand-row-spec =
+pub scan-nodes-spec : {M : Type 1} → statement M
+scan-nodes-spec =
     tie.close
     (tie.spec
     Inv-loop
@@ -24,8 +24,7 @@ demand-row-spec =
     (λ c. search needs)
     (λ c. search scans)
     (λ c κs. search needs)
-    (λ c. search needs)
-    (λ c. search needs)
+    (λ c κs. search needs)
     (λ c. search (scans, nodes-stop))
     (λ c. search needs)
     (λ c. search needs)
