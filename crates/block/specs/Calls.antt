@@ -6,7 +6,7 @@ use lib.Dec.{eqb}
 use lib.ListN.{length, getD}
 use Rattle.tables.specs.declared.Answer.{Answer}
 use Rattle.tables.specs.Answer.{orElse, left, sized}
-use Rattle.lists.specs.Refusals.{within}
+use Rattle.faults.specs.Lists.{within}
 use Rattle.block.specs.declared.Kind.{Kind}
 use Rattle.payload.specs.File.{blocksFor, payloadWord, payloadOf, fileOf}
 use Rattle.payload.specs.Reading.{payloadAnswer}

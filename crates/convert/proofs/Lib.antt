@@ -1,4 +1,3 @@
-pub mod Tests
 pub mod Facts
 pub mod Kept
 pub mod Runs

@@ -2,25 +2,27 @@
 use Prim.Native.Nat.{ℕ}
 use mathlib.Core.Bool.{Bool, true, false, _&&_}
 use mathlib.Core.List.{List}
-use mathlib.Core.Path.{_≡_, refl, sym, ap, _∙_}
+use mathlib.Core.Path.{_≡_, refl, sym, ap, subst, _∙_}
 use borrow.Author.Tests.{eq-eqb}
 use lib.Dec.{eqb}
 use lib.ListN.{length}
 use Rattle.tables.specs.declared.Answer.{Answer}
-use Rattle.tables.specs.declared.Answer.the-variants.{Accepted, Refused}
+use Rattle.tables.specs.declared.Answer.the-variants.{Accepted}
 use Rattle.tables.specs.Answer.{left, sized}
-use Rattle.tables.proofs.Answers.{Refuses, orElse-accepts, orElse-refuses}
+use Rattle.tables.proofs.Answers.{Refuses, orElse-accepts, orElse-refuses, or-else-stop}
 use Rattle.tables.proofs.Tests.{and-iff}
-use Rattle.lists.specs.Words.{linksOf, stepsOf, roadOf, planOf, planLength, recordLength}
-use Rattle.lists.specs.Refusals.{sizes, ranges, bounds}
+use Rattle.lists.specs.Words.{linksOf, stepsOf, roadOf, recordWidth, planLength, recordLength}
+use Rattle.lists.specs.Refusals.{sizes, ranges, planBounds}
+use Rattle.lists.proofs.Limits.{sized-iff, sized-refuses}
 use Rattle.lists.proofs.Words.{record-length}
-use Rattle.simulate.specs.Simulate.{simulateSizes, simulateAnswer, simulated}
+use Rattle.simulate.specs.Simulate.{simulateSizes, simulateAnswer, simulated, recordLeft}
 use Rattle.simulate.proofs.Answers.{accepted-sizes}
-use Rattle.convert.specs.Convert.{converted, normalForm, convertAnswer, normalRefusal, normalAnswer}
+use Rattle.convert.specs.Convert.{converted, normalForm, convertAnswer, normalRefusal, normalAnswer, planLeft, workLeft, normalLeft}
+use Rattle.convert.proofs.Answers.{roomTest}
 
-simulated-fits : (corridor demands plan : List ℕ) → length (simulated corridor demands plan) ≡ recordLength (linksOf corridor) (stepsOf demands)
+simulated-fits : (corridor demands plan : List ℕ) → length (simulated corridor demands plan) ≡ recordLength recordWidth (linksOf corridor) (stepsOf demands)
 unfolding simulated roadOf
-simulated-fits corridor demands plan = record-length _ _
+simulated-fits corridor demands plan = record-length _ _ _
 
 -- a test and then another, as the code has them
 pub first-fails : (t a b : Bool) → t ≡ a → t ≡ false → false ≡ (a && b)
@@ -45,26 +47,27 @@ last-holds true true true r e = e
 
 -- past the simulator the work record is the plan's
 pub work-is : (corridor demands plan : List ℕ) (work : ℕ) (a : Answer) (lent after : List ℕ) → a ≡ simulateAnswer corridor demands plan work → a ≡ Accepted
-    → after ≡ left (simulateAnswer corridor demands plan work) (simulated corridor demands plan) lent → after ≡ simulated corridor demands plan
-work-is corridor demands plan work a lent after e h q = q ∙ ap (λ (x : Answer). left x (simulated corridor demands plan) lent) (sym e ∙ h)
+    → work ≡ length lent → after ≡ recordLeft corridor demands plan lent → after ≡ simulated corridor demands plan
+unfolding recordLeft
+work-is corridor demands plan work a lent after e h w q =
+    q
+    ∙ ap (λ (x : ℕ). left (simulateAnswer corridor demands plan x) (simulated corridor demands plan) lent) (sym w)
+    ∙ ap (λ (x : Answer). left x (simulated corridor demands plan) lent) (sym e ∙ h)
 
 module _ (corridor demands plan : List ℕ) (work room : ℕ) where
-  -- N and K in range, and the lent plan of the right length
-  abbrev pub normalTest : Bool
-  normalTest = sizes corridor demands && eqb room (planLength (linksOf corridor) (stepsOf demands))
-
-  pub normal-unsized : (t : Bool) → t ≡ normalTest → t ≡ false → Refused 1 0 0 ≡ normalRefusal corridor demands plan work room
+  pub normal-unsized : (t : Bool) (a : Answer) → t ≡ roomTest corridor demands room → a ≡ sized t → Refuses a → a ≡ normalRefusal corridor demands plan work room
   unfolding normalRefusal
-  normal-unsized t e h =
-      let q = last-fails (sizes corridor demands) (eqb (length plan) (planLength (linksOf corridor) (stepsOf demands))) (eqb work (recordLength (linksOf corridor) (stepsOf demands)))
+  normal-unsized t a e g r =
+      let h : t ≡ false = sized-refuses t (subst Refuses g r) in
+      let q = last-fails (sizes corridor demands) (eqb (length plan) (planLength (linksOf corridor) (stepsOf demands))) (eqb work (recordLength recordWidth (linksOf corridor) (stepsOf demands)))
       (eqb room (planLength (linksOf corridor) (stepsOf demands))) (sym e ∙ h) in
-      rw q
+      or-else-stop a _ _ (g ∙ ap sized (h ∙ sym q)) r
 
-  pub normal-sized : (t : Bool) → t ≡ normalTest → t ≡ true → simulateAnswer corridor demands plan work ≡ normalRefusal corridor demands plan work room
+  normal-sized : roomTest corridor demands room ≡ true → simulateAnswer corridor demands plan work ≡ normalRefusal corridor demands plan work room
   unfolding normalRefusal simulateAnswer simulateSizes
-  normal-sized t e h =
-      let q = last-holds (sizes corridor demands) (eqb (length plan) (planLength (linksOf corridor) (stepsOf demands))) (eqb work (recordLength (linksOf corridor) (stepsOf demands)))
-      (eqb room (planLength (linksOf corridor) (stepsOf demands))) (sym e ∙ h) in
+  normal-sized h =
+      let q = last-holds (sizes corridor demands) (eqb (length plan) (planLength (linksOf corridor) (stepsOf demands))) (eqb work (recordLength recordWidth (linksOf corridor) (stepsOf demands)))
+      (eqb room (planLength (linksOf corridor) (stepsOf demands))) h in
       rw q
 
   pub normal-stops : (a : Answer) → a ≡ normalRefusal corridor demands plan work room → Refuses a → a ≡ normalAnswer corridor demands plan work room
@@ -72,35 +75,48 @@ module _ (corridor demands plan : List ℕ) (work room : ℕ) where
   normal-stops a e r = rw (← e) (sym (orElse-refuses a _ r))
 
   -- past the simulator the converter's answer is the normal form's
-  pub normal-goes-on : (t : Bool) → t ≡ normalTest → t ≡ true → simulateAnswer corridor demands plan work ≡ Accepted
+  normal-goes-on : roomTest corridor demands room ≡ true → simulateAnswer corridor demands plan work ≡ Accepted
       → convertAnswer corridor demands (simulated corridor demands plan) room ≡ normalAnswer corridor demands plan work room
   unfolding normalAnswer convertAnswer simulateAnswer simulated
-  normal-goes-on t e h a =
+  normal-goes-on h a =
       let l = accepted-sizes corridor demands plan work a in
       let road-right : ranges (roadOf corridor demands) ≡ Accepted =
-      orElse-accepts (ranges (roadOf corridor demands)) (bounds (roadOf corridor demands) (planOf (roadOf corridor demands) plan)) .0
+      orElse-accepts (ranges (roadOf corridor demands)) (planBounds corridor demands plan) .0
       (orElse-accepts (sized (simulateSizes corridor demands plan work)) _ .0 a .1) .0 in
-      let refusal-none : normalRefusal corridor demands plan work room ≡ Accepted = sym (normal-sized t e h) ∙ a in
-      let room-right : eqb room (planLength (linksOf corridor) (stepsOf demands)) ≡ true = and-iff (sizes corridor demands) (eqb room (planLength (linksOf corridor) (stepsOf demands))) .0 (sym e ∙ h) .1 in
-      let record-right : eqb (length (simulated corridor demands plan)) (recordLength (linksOf corridor) (stepsOf demands)) ≡ true =
-      eq-eqb (length (simulated corridor demands plan)) (recordLength (linksOf corridor) (stepsOf demands)) (simulated-fits corridor demands plan) in
+      let refusal-none : normalRefusal corridor demands plan work room ≡ Accepted = sym (normal-sized h) ∙ a in
+      let room-right : eqb room (planLength (linksOf corridor) (stepsOf demands)) ≡ true = and-iff (sizes corridor demands) (eqb room (planLength (linksOf corridor) (stepsOf demands))) .0 h .1 in
+      let record-right : eqb (length (simulated corridor demands plan)) (recordLength recordWidth (linksOf corridor) (stepsOf demands)) ≡ true =
+      eq-eqb (length (simulated corridor demands plan)) (recordLength recordWidth (linksOf corridor) (stepsOf demands)) (simulated-fits corridor demands plan) in
       simp (refusal-none, road-right, l .listed, room-right, record-right)
 
-  -- ---- the lists at exit
+  -- ---- the answer and the lists at exit: t and a are what the test of the lengths answered, b what the simulator did
 
-  -- the work record, as the simulator left it
-  pub work-left : (t : Bool) (lent after : List ℕ) → t ≡ normalTest → t ≡ true → after ≡ left (simulateAnswer corridor demands plan work) (simulated corridor demands plan) lent
-      → after ≡ left (normalRefusal corridor demands plan work room) (simulated corridor demands plan) lent
-  work-left t lent after e h q = q ∙ ap (λ (x : Answer). left x (simulated corridor demands plan) lent) (normal-sized t e h)
+  module _ (t : Bool) (e : t ≡ roomTest corridor demands room) (a : Answer) (g : a ≡ sized t) (yes : a ≡ Accepted) where
+    told-room : roomTest corridor demands room ≡ true
+    told-room = sym e ∙ sized-iff t .0 (sym g ∙ yes)
 
-  module _ (t : Bool) (e : t ≡ normalTest) (h : t ≡ true) (accepted : simulateAnswer corridor demands plan work ≡ Accepted) (words : List ℕ) (w : words ≡ simulated corridor demands plan) where
-    pub converter-answers : (b : Answer) → b ≡ convertAnswer corridor demands words room → b ≡ normalAnswer corridor demands plan work room
-    converter-answers b q = q ∙ ap (λ (x : List ℕ). convertAnswer corridor demands x room) w ∙ normal-goes-on t e h accepted
+    -- where the simulator refuses, it gives the normal form's refusal
+    pub simulator-refuses : (b : Answer) → b ≡ simulateAnswer corridor demands plan work → b ≡ normalRefusal corridor demands plan work room
+    simulator-refuses b q = q ∙ normal-sized told-room
 
-    pub converter-writes : (lent after : List ℕ) → after ≡ left (convertAnswer corridor demands words room) (converted corridor demands words) lent
-        → after ≡ left (normalAnswer corridor demands plan work room) (normalForm corridor demands plan) lent
-    unfolding normalForm
-    converter-writes lent after q =
+    -- the work record, as the simulator left it
+    pub work-left : (lent after : List ℕ) → work ≡ length lent → after ≡ recordLeft corridor demands plan lent → after ≡ workLeft corridor demands plan lent room
+    unfolding recordLeft workLeft
+    work-left lent after w q =
         q
-        ∙ ap (λ (x : List ℕ). left (convertAnswer corridor demands x room) (converted corridor demands x) lent) w
-        ∙ ap (λ (x : Answer). left x (converted corridor demands (simulated corridor demands plan)) lent) (normal-goes-on t e h accepted)
+        ∙ ap (λ (x : ℕ). left (simulateAnswer corridor demands plan x) (simulated corridor demands plan) lent) (sym w)
+        ∙ ap (λ (x : Answer). left x (simulated corridor demands plan) lent) (normal-sized told-room)
+        ∙ ap (λ (x : ℕ). left (normalRefusal corridor demands plan x room) (simulated corridor demands plan) lent) w
+
+    module _ (accepted : simulateAnswer corridor demands plan work ≡ Accepted) (words : List ℕ) (w : words ≡ simulated corridor demands plan) where
+      pub converter-answers : (b : Answer) → b ≡ convertAnswer corridor demands words room → b ≡ normalAnswer corridor demands plan work room
+      converter-answers b q = q ∙ ap (λ (x : List ℕ). convertAnswer corridor demands x room) w ∙ normal-goes-on told-room accepted
+
+      pub converter-writes : (lent after : List ℕ) → room ≡ length lent → after ≡ planLeft corridor demands words lent → after ≡ normalLeft corridor demands plan work lent
+      unfolding normalForm planLeft normalLeft
+      converter-writes lent after l q =
+          q
+          ∙ ap (λ (x : ℕ). left (convertAnswer corridor demands words x) (converted corridor demands words) lent) (sym l)
+          ∙ ap (λ (x : List ℕ). left (convertAnswer corridor demands x room) (converted corridor demands x) lent) w
+          ∙ ap (λ (x : Answer). left x (converted corridor demands (simulated corridor demands plan)) lent) (normal-goes-on told-room accepted)
+          ∙ ap (λ (x : ℕ). left (normalAnswer corridor demands plan work x) (normalForm corridor demands plan) lent) l

@@ -9,7 +9,7 @@ use Rattle.road.specs.Run.{junction, run, cost}
 use Rattle.road.specs.Limits.{Limits, Bounded}
 use Rattle.road.proofs.Same.{same-traces-back, cost-same}
 use Rattle.settings.specs.Share.{IsSetting}
-use Rattle.lists.specs.Words.{planOf, planWords, traceOf, recordWords, recordLength}
+use Rattle.lists.specs.Words.{planOf, planWords, Width, traceOf, recordWords, recordLength}
 use Rattle.lists.proofs.Words.{CostWords, plan-read, record-cost, record-read, record-same, record-written}
 use Rattle.convert.specs.Convert.{planFor}
 use Rattle.convert.proofs.Facts.{Moves, QueuesHeld, Keeps}
@@ -18,21 +18,21 @@ use Rattle.convert.proofs.Runs.{run-moves, moves-same}
 use Rattle.convert.proofs.Plans.{plan-named, named-bounded, named-run}
 
 -- a record's own cost is right
-pub record-costs : (road : Road) (trace : Trace) → CostWords road (recordWords road trace) (cost road (traceOf road (recordWords road trace)))
-record-costs road trace =
-    subst (λ (total : ℕ). CostWords road (recordWords road trace) total) (sym (cost-same road _ _ (record-read road trace))) (record-cost road trace)
+pub record-costs : (width : ℕ) (road : Road) (trace : Trace) → Width width → CostWords width road (recordWords width road trace) (cost road (traceOf width road (recordWords width road trace)))
+record-costs width road trace wide =
+    subst (λ (total : ℕ). CostWords width road (recordWords width road trace) total) (sym (cost-same road _ _ (record-read width road trace wide))) (record-cost width road trace)
 
 -- the converter's plan, as it is read from its list
-abbrev pub returned : Road → List ℕ → Plan
-returned road words = planOf road (planWords road (planFor road (traceOf road words)))
+abbrev pub returned : ℕ → Road → List ℕ → Plan
+returned width road words = planOf road (planWords road (planFor road (traceOf width road words)))
 
-module _ (road : Road) (limits : Limits road) where
+module _ (width : ℕ) (wide : Width width) (road : Road) (limits : Limits road) where
   -- ---- the record of a plan within bounds keeps 7 to 11
 
-  pub record-moves : (plan : Plan) → Bounded road plan → Moves road (traceOf road (recordWords road (run road plan)))
+  pub record-moves : (plan : Plan) → Bounded road plan → Moves road (traceOf width road (recordWords width road (run road plan)))
   record-moves plan bounded =
-      moves-same road (run road plan) (traceOf road (recordWords road (run road plan)))
-      (same-traces-back road _ _ (record-read road (run road plan)))
+      moves-same road (run road plan) (traceOf width road (recordWords width road (run road plan)))
+      (same-traces-back road _ _ (record-read width road (run road plan) wide))
       (run-moves road limits plan bounded)
 
   -- where 12 is kept too, every queue is within its limit, the start's included
@@ -43,20 +43,20 @@ module _ (road : Road) (limits : Limits road) where
 
   -- ---- the converter's plan for words that keep 7 to 13
 
-  module _ (words : List ℕ) (keeps : Keeps road words) where
+  module _ (words : List ℕ) (keeps : Keeps width road words) where
     pub returned-named : (k i : ℕ) → k < road .steps → i ≤ road .links
-        → IsSetting (junction road k (traceOf road words .state k) i) (traceOf road words .flows k i) (returned road words .rate k i) (returned road words .limit k i)
+        → IsSetting (junction road k (traceOf width road words .state k) i) (traceOf width road words .flows k i) (returned width road words .rate k i) (returned width road words .limit k i)
     returned-named k i hk hi =
-        let same = plan-read road (planFor road (traceOf road words)) k i hk hi in
-        subst₂ (λ (rate limit : ℕ). IsSetting (junction road k (traceOf road words .state k) i) (traceOf road words .flows k i) rate limit)
+        let same = plan-read road (planFor road (traceOf width road words)) k i hk hi in
+        subst₂ (λ (rate limit : ℕ). IsSetting (junction road k (traceOf width road words .state k) i) (traceOf width road words .flows k i) rate limit)
         (sym (same .rate)) (sym (same .limit))
-        (plan-named road limits (traceOf road words) (keeps .moves) k i hk hi)
+        (plan-named road limits (traceOf width road words) (keeps .moves) k i hk hi)
 
-    pub returned-bounded : Bounded road (returned road words)
-    returned-bounded = named-bounded road limits (traceOf road words) (keeps .moves) (returned road words) returned-named
+    pub returned-bounded : Bounded road (returned width road words)
+    returned-bounded = named-bounded road limits (traceOf width road words) (keeps .moves) (returned width road words) returned-named
 
     -- it has the record, in every word
-    pub returned-record : length words ≡ recordLength (road .links) (road .steps) → recordWords road (run road (returned road words)) ≡ words
+    pub returned-record : length words ≡ recordLength width (road .links) (road .steps) → recordWords width road (run road (returned width road words)) ≡ words
     returned-record fits =
-        record-same road (run road (returned road words)) (traceOf road words) (named-run road limits (traceOf road words) (keeps .moves) (returned road words) returned-named)
-        ∙ sym (record-written road words fits (keeps .costs))
+        record-same width road (run road (returned width road words)) (traceOf width road words) (named-run road limits (traceOf width road words) (keeps .moves) (returned width road words) returned-named)
+        ∙ sym (record-written width road words wide fits (keeps .costs))

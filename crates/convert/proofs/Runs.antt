@@ -11,7 +11,8 @@ use Rattle.road.proofs.Same.{SameTraces, junction-same, next-same}
 use Rattle.road.proofs.Zeros.{run-entry-vehicles, run-entry-main, run-exit-queue, run-exit-ramp}
 use Rattle.settings.specs.Share.{Permitted}
 use Rattle.settings.proofs.Settings.{reached-permitted}
-use Rattle.convert.proofs.Facts.{Fixed, Stepped, Moves}
+use Rattle.faults.proofs.Records.{Fixed, Stepped}
+use Rattle.convert.proofs.Facts.{Moves}
 
 module _ (road : Road) (limits : Limits road) (plan : Plan) where
   pub run-fixed : (k i : ℕ) → k ≤ road .steps → i ≤ road .links → Fixed road k i (run road plan .state k i) (run road plan .flows k i)

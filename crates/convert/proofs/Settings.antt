@@ -13,67 +13,68 @@ use Rattle.road.specs.Corridor.{Link}
 use Rattle.road.specs.Values.{linkOf}
 use Rattle.settings.specs.declared.Setting.{Setting}
 use Rattle.settings.specs.Setting.{rateIn, limitIn}
-use Rattle.lists.specs.Words.{linksOf, stepsOf, nodeAt, roadOf, traceOf, planWord, planWords, planLength}
+use Rattle.lists.specs.Words.{linksOf, stepsOf, free, nodeAt, roadOf, recordWidth, traceOf, planWord, planWords, planLength}
 use Rattle.lists.specs.Fits.{RowFits}
 use Rattle.convert.specs.Convert.{settingAt, planFor, converted}
 use Rattle.convert.specs.Rows.{settingIn, settingWord, planRow, Ready}
 use Rattle.convert.proofs.Rows.{demand-lent, trace-lent, row-setting}
 
-pub settings-begun : (corridor demand row : List ℕ) (links : ℕ) (d : List ℕ) → RowFits 2 d links → Placed 2 0 (links + 1) (settingWord corridor demand row) d d
-settings-begun corridor demand row links d e = placed-begun 2 (links + 1) (settingWord corridor demand row) d (omega arith)
+pub settings-begun : (width : ℕ) (corridor demand : List ℕ) (downstream : ℕ) (row : List ℕ) (links : ℕ) (d : List ℕ) → RowFits 2 d links → Placed 2 0 (links + 1) (settingWord width corridor demand downstream row) d d
+settings-begun width corridor demand downstream row links d e = placed-begun 2 (links + 1) (settingWord width corridor demand downstream row) d (omega arith)
 
 -- one more node's words are stored: s is its setting and l its link, as calls gave them
-pub setting-more : (corridor demand row : List ℕ) (i links : ℕ) (d out out′ : List ℕ) (s : Setting) (l : declared.Link)
-    → Placed 2 i (links + 1) (settingWord corridor demand row) d out → i < links + 1 → s ≡ settingIn corridor demand row i → linkOf l ≡ nodeAt corridor i .link
-    → out′ ≡ set (set out (i * 2) (rateIn s)) (i * 2 + 1) (limitIn (l .«full_speed» .0) s) → Placed 2 (i + 1) (links + 1) (settingWord corridor demand row) d out′
+pub setting-more : (width : ℕ) (corridor demand : List ℕ) (downstream : ℕ) (row : List ℕ) (i links : ℕ) (d out out′ : List ℕ) (s : Setting) (l : declared.Link)
+    → Placed 2 i (links + 1) (settingWord width corridor demand downstream row) d out → i < links + 1 → s ≡ settingIn width corridor demand downstream row i → linkOf l ≡ nodeAt corridor i .link
+    → out′ ≡ set (set out (i * 2) (rateIn s)) (i * 2 + 1) (limitIn (l .«full_speed» .0) s) → Placed 2 (i + 1) (links + 1) (settingWord width corridor demand downstream row) d out′
 unfolding settingWord
-setting-more corridor demand row i links d out out′ s l p h e q o =
-    subst (λ (x : List ℕ). Placed 2 (i + 1) (links + 1) (settingWord corridor demand row) d x) (sym o)
-    (placed-two i (links + 1) (settingWord corridor demand row) d out (i * 2) (rateIn s) (limitIn (l .«full_speed» .0) s) p h refl
+setting-more width corridor demand downstream row i links d out out′ s l p h e q o =
+    subst (λ (x : List ℕ). Placed 2 (i + 1) (links + 1) (settingWord width corridor demand downstream row) d x) (sym o)
+    (placed-two i (links + 1) (settingWord width corridor demand downstream row) d out (i * 2) (rateIn s) (limitIn (l .«full_speed» .0) s) p h refl
     (ap rateIn e) (ap₂ limitIn (ap (λ (x : Link). x .fullSpeed) q) e))
 
-pub settings-ended : (corridor demand row : List ℕ) (i links : ℕ) (d out : List ℕ) → Placed 2 i (links + 1) (settingWord corridor demand row) d out → links + 1 ≤ i
-    → out ≡ planRow corridor links demand row
+pub settings-ended : (width : ℕ) (corridor demand : List ℕ) (downstream : ℕ) (row : List ℕ) (i links : ℕ) (d out : List ℕ) → Placed 2 i (links + 1) (settingWord width corridor demand downstream row) d out → links + 1 ≤ i
+    → out ≡ planRow width corridor links demand downstream row
 unfolding planRow
-settings-ended corridor demand row i links d out p h =
-    placed-ended 2 i (links + 1) (settingWord corridor demand row) d out p h ∙ ap (λ (n : ℕ). rowWords 2 n (settingWord corridor demand row)) (add-one links)
+settings-ended width corridor demand downstream row i links d out p h =
+    placed-ended 2 i (links + 1) (settingWord width corridor demand downstream row) d out p h ∙ ap (λ (n : ℕ). rowWords 2 n (settingWord width corridor demand downstream row)) (add-one links)
 
 -- ---- as a loop's invariant: the first k rows are the plan's
 
 abbrev pub PlanRows : (corridor demands words : List ℕ) (links steps k : ℕ) (d plan : List ℕ) → Type 0
 PlanRows corridor demands words links steps k d plan =
-    Rowed k steps ((links + 1) * 2) (λ h. cell 2 (planWord (planFor (roadOf corridor demands) (traceOf (roadOf corridor demands) words)) h)) d plan
+    Rowed k steps ((links + 1) * 2) (λ h. cell 2 (planWord (planFor (roadOf corridor demands) (traceOf recordWidth (roadOf corridor demands) words)) h)) d plan
 
 pub plan-begun : (corridor demands words : List ℕ) (links steps : ℕ) (d : List ℕ) → length d ≡ planLength links steps → PlanRows corridor demands words links steps 0 d d
 plan-begun corridor demands words links steps d e = rowed-begun steps ((links + 1) * 2) _ d (omega arith)
 
-module _ (corridor demands words : List ℕ) (links steps : ℕ) (ready : Ready corridor demands words links steps) where
+module _ (corridor demands words : List ℕ) (links steps : ℕ) (ready : Ready recordWidth corridor demands words links steps) where
   n : links ≡ linksOf corridor
   n = ready .corridorFits .first
 
-  -- one more row is lent and comes back as ys
-  pub plan-more : (k r at : ℕ) (d plan ys : List ℕ) → PlanRows corridor demands words links steps k d plan → k < steps → r ≡ k * ((links + 1) * 2) → at ≡ k * ((links + 1) * 4)
-      → ys ≡ planRow corridor links (take (1 + r + (links + 1) * 2 - (1 + r)) (drop (1 + r) demands)) (take (at + (links + 1) * 4 - at) (drop at words))
+  -- one more row is lent and comes back as ys; w is how many words a record's row has
+  pub plan-more : (k r at w downstream : ℕ) (d plan ys : List ℕ) → PlanRows corridor demands words links steps k d plan → k < steps → r ≡ k * ((links + 1) * 2) → at ≡ k * w
+      → w ≡ suc links * recordWidth → downstream ≡ free
+      → ys ≡ planRow recordWidth corridor links (take (1 + r + (links + 1) * 2 - (1 + r)) (drop (1 + r) demands)) downstream (take (at + w - at) (drop at words))
       → PlanRows corridor demands words links steps (k + 1) d (putMid r (r + (links + 1) * 2 - r) plan ys)
   unfolding planRow settingWord planWord planFor roadOf
-  plan-more k r at d plan ys p h e q y =
-      let w : (links + 1) * 2 ≡ suc links * 2 = omega arith in
+  plan-more k r at w downstream d plan ys p h e q v f y =
+      let x : (links + 1) * 2 ≡ suc links * 2 = omega arith in
       let demand : List ℕ = take (1 + r + (links + 1) * 2 - (1 + r)) (drop (1 + r) demands) in
-      let row : List ℕ = take (at + (links + 1) * 4 - at) (drop at words) in
-      let same : (i : ℕ) → i ≤ linksOf corridor → settingIn corridor demand row i ≡ settingAt (roadOf corridor demands) (traceOf (roadOf corridor demands) words) k i =
-      row-setting corridor demands words links steps ready k demand row (demand-lent corridor demands words links steps ready k r e) (trace-lent corridor demands words links steps ready k k at q) in
-      let v : links ≡ linksOf corridor = n in
-      rowed-words k steps ((links + 1) * 2) _ d plan r 2 (suc links) (settingWord corridor demand row) ys p h e y w
-      (subst (λ (m : ℕ). (j : ℕ) → j < m → cell 2 (settingWord corridor demand row) j ≡ cell 2 (planWord (planFor (roadOf corridor demands) (traceOf (roadOf corridor demands) words)) k) j) (sym w)
-      (cell-same 2 (suc links) (settingWord corridor demand row) (planWord (planFor (roadOf corridor demands) (traceOf (roadOf corridor demands) words)) k)
-      (λ i j a b. word i j (same i (omega arith)))))
+      let row : List ℕ = take (at + w - at) (drop at words) in
+      let same : (i : ℕ) → i ≤ linksOf corridor → settingIn recordWidth corridor demand downstream row i ≡ settingAt (roadOf corridor demands) (traceOf recordWidth (roadOf corridor demands) words) k i =
+      row-setting recordWidth corridor demands words links steps ready k demand row (demand-lent recordWidth corridor demands words links steps ready k r e)
+      (trace-lent recordWidth corridor demands words links steps ready k k at w q v) downstream f in
+      let l : links ≡ linksOf corridor = n in
+      rowed-words k steps ((links + 1) * 2) _ d plan r 2 (suc links) (settingWord recordWidth corridor demand downstream row) ys p h e y x
+      (subst (λ (m : ℕ). (j : ℕ) → j < m → cell 2 (settingWord recordWidth corridor demand downstream row) j ≡ cell 2 (planWord (planFor (roadOf corridor demands) (traceOf recordWidth (roadOf corridor demands) words)) k) j) (sym x)
+      (cell-same 2 (suc links) (settingWord recordWidth corridor demand downstream row) (planWord (planFor (roadOf corridor demands) (traceOf recordWidth (roadOf corridor demands) words)) k)
+      (λ i j a b. word demand row i j (same i (omega arith)))))
     where
-      word : (i j : ℕ) → settingIn corridor (take (1 + r + (links + 1) * 2 - (1 + r)) (drop (1 + r) demands)) (take (at + (links + 1) * 4 - at) (drop at words)) i
-          ≡ settingAt (roadOf corridor demands) (traceOf (roadOf corridor demands) words) k i
-          → settingWord corridor (take (1 + r + (links + 1) * 2 - (1 + r)) (drop (1 + r) demands)) (take (at + (links + 1) * 4 - at) (drop at words)) i j
-          ≡ planWord (planFor (roadOf corridor demands) (traceOf (roadOf corridor demands) words)) k i j
-      word i zero s = ap rateIn s
-      word i (suc j) s = ap (limitIn (nodeAt corridor i .link .fullSpeed)) s
+      word : (demand row : List ℕ) (i j : ℕ)
+          → settingIn recordWidth corridor demand downstream row i ≡ settingAt (roadOf corridor demands) (traceOf recordWidth (roadOf corridor demands) words) k i
+          → settingWord recordWidth corridor demand downstream row i j ≡ planWord (planFor (roadOf corridor demands) (traceOf recordWidth (roadOf corridor demands) words)) k i j
+      word demand row i zero s = ap rateIn s
+      word demand row i (suc j) s = ap (limitIn (nodeAt corridor i .link .fullSpeed)) s
 
   pub plan-ended : (k : ℕ) (d plan : List ℕ) → PlanRows corridor demands words links steps k d plan → steps ≤ k → plan ≡ converted corridor demands words
   unfolding converted planWords roadOf

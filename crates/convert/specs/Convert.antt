@@ -5,13 +5,13 @@ use mathlib.Core.List.{List}
 use lib.ListN.{length}
 use lib.Dec.{eqb}
 use Rattle.tables.specs.declared.Answer.{Answer}
-use Rattle.tables.specs.Answer.{orElse, sized}
+use Rattle.tables.specs.Answer.{orElse, sized, left}
 use Rattle.road.specs.Corridor.{Road, Plan, Trace}
 use Rattle.road.specs.Run.{junction}
 use Rattle.settings.specs.declared.Setting.{Setting}
 use Rattle.settings.specs.Setting.{settingFor, rateIn, limitIn}
-use Rattle.lists.specs.Words.{linksOf, stepsOf, roadOf, planOf, planWords, traceOf, planLength, recordLength}
-use Rattle.lists.specs.Refusals.{sizes, ranges, bounds}
+use Rattle.lists.specs.Words.{linksOf, stepsOf, roadOf, planWords, recordWidth, traceOf, planLength, recordLength}
+use Rattle.lists.specs.Refusals.{sizes, ranges, planBounds}
 use Rattle.simulate.specs.Simulate.{simulated}
 use Rattle.convert.specs.Refusals.{judged}
 
@@ -30,7 +30,7 @@ planFor road trace =
 -- the converter's plan for a record
 unfoldable pub converted : List ℕ → List ℕ → List ℕ → List ℕ
 converted corridor demands words =
-    planWords (roadOf corridor demands) (planFor (roadOf corridor demands) (traceOf (roadOf corridor demands) words))
+    planWords (roadOf corridor demands) (planFor (roadOf corridor demands) (traceOf recordWidth (roadOf corridor demands) words))
 
 -- "Normal form: simulate into the caller's work record, then convert."
 unfoldable pub normalForm : List ℕ → List ℕ → List ℕ → List ℕ
@@ -40,8 +40,8 @@ normalForm corridor demands plan = converted corridor demands (simulated corrido
 
 unfoldable pub checkAnswer : List ℕ → List ℕ → List ℕ → Answer
 checkAnswer corridor demands words =
-    orElse (sized (sizes corridor demands && eqb (length words) (recordLength (linksOf corridor) (stepsOf demands))))
-    (orElse (ranges (roadOf corridor demands)) (judged (roadOf corridor demands) words))
+    orElse (sized (sizes corridor demands && eqb (length words) (recordLength recordWidth (linksOf corridor) (stepsOf demands))))
+    (orElse (ranges (roadOf corridor demands)) (judged recordWidth (roadOf corridor demands) words))
 
 -- `room` is the length of the lent plan
 unfoldable pub convertAnswer : List ℕ → List ℕ → List ℕ → ℕ → Answer
@@ -49,8 +49,8 @@ convertAnswer corridor demands words room =
     orElse
     (sized
     (sizes corridor demands
-    && (eqb (length words) (recordLength (linksOf corridor) (stepsOf demands)) && eqb room (planLength (linksOf corridor) (stepsOf demands)))))
-    (orElse (ranges (roadOf corridor demands)) (judged (roadOf corridor demands) words))
+    && (eqb (length words) (recordLength recordWidth (linksOf corridor) (stepsOf demands)) && eqb room (planLength (linksOf corridor) (stepsOf demands)))))
+    (orElse (ranges (roadOf corridor demands)) (judged recordWidth (roadOf corridor demands) words))
 
 -- 1 to 6: what refuses a normal form before anything is written; `work` and `room` are the lengths of the lent work record and of the lent plan
 unfoldable pub normalRefusal : List ℕ → List ℕ → List ℕ → ℕ → ℕ → Answer
@@ -59,10 +59,23 @@ normalRefusal corridor demands plan work room =
     (sized
     (sizes corridor demands
     && (eqb (length plan) (planLength (linksOf corridor) (stepsOf demands))
-    && (eqb work (recordLength (linksOf corridor) (stepsOf demands)) && eqb room (planLength (linksOf corridor) (stepsOf demands))))))
-    (orElse (ranges (roadOf corridor demands)) (bounds (roadOf corridor demands) (planOf (roadOf corridor demands) plan)))
+    && (eqb work (recordLength recordWidth (linksOf corridor) (stepsOf demands)) && eqb room (planLength (linksOf corridor) (stepsOf demands))))))
+    (orElse (ranges (roadOf corridor demands)) (planBounds corridor demands plan))
 
 unfoldable pub normalAnswer : List ℕ → List ℕ → List ℕ → ℕ → ℕ → Answer
 normalAnswer corridor demands plan work room =
     orElse (normalRefusal corridor demands plan work room)
-    (judged (roadOf corridor demands) (simulated corridor demands plan))
+    (judged recordWidth (roadOf corridor demands) (simulated corridor demands plan))
+
+-- ---- the lent lists at exit
+
+-- the converter's plan
+unfoldable pub planLeft : List ℕ → List ℕ → List ℕ → List ℕ → List ℕ
+planLeft corridor demands words lent = left (convertAnswer corridor demands words (length lent)) (converted corridor demands words) lent
+
+-- a normal form's work record, filled unless 1 to 6 refuse, and its plan; `room` and `work` are the lengths of the other list
+unfoldable pub workLeft : List ℕ → List ℕ → List ℕ → List ℕ → ℕ → List ℕ
+workLeft corridor demands plan lent room = left (normalRefusal corridor demands plan (length lent) room) (simulated corridor demands plan) lent
+
+unfoldable pub normalLeft : List ℕ → List ℕ → List ℕ → ℕ → List ℕ → List ℕ
+normalLeft corridor demands plan work lent = left (normalAnswer corridor demands plan work (length lent)) (normalForm corridor demands plan) lent

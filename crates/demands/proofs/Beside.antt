@@ -21,14 +21,15 @@ use Rattle.road.proofs.Sizes.{run-state-fits, run-cost}
 use Rattle.settings.proofs.Settings.{named-once}
 use Rattle.lists.specs.Words.{linksOf, stepsOf, roadOf, planOf, planLength, traceOf, recordLength}
 use Rattle.lists.specs.Refusals.{bounds, limits}
-use Rattle.lists.proofs.Tests.{eq-holds}
+use Rattle.faults.proofs.Tests.{eq-holds}
 use Rattle.lists.proofs.Limits.{sized-iff, bounds-iff}
 use Rattle.lists.proofs.Words.{plan-same, plan-written, record-read}
 use Rattle.lists.proofs.Fits.{record-fits}
 use Rattle.simulate.specs.Simulate.{simulateAnswer, simulated}
 use Rattle.convert.specs.Refusals.{judged}
 use Rattle.convert.specs.Convert.{planFor, converted, normalForm, checkAnswer, normalAnswer}
-use Rattle.convert.proofs.Facts.{queueFault, queue-iff, judged-queue}
+use Rattle.faults.proofs.Records.{queueFault, queue-iff}
+use Rattle.convert.proofs.Facts.{judged-queue}
 use Rattle.convert.proofs.Plans.{plan-named}
 use Rattle.convert.proofs.Records.{record-costs}
 use Rattle.demands.specs.Beside.{InBounds, queueAt, queueLimitAt, FirstQueueAbove, Checking, NormalForms, OneSetting, RecordSizes, PlanSizes, Beside}

@@ -12,9 +12,11 @@ use Rattle.settings.specs.Setting.{heldLimit, settingFor}
 use Rattle.settings.proofs.Cases.{cases as node-cases}
 use Rattle.payload.proofs.Cases.{cases as file-cases}
 use Rattle.lists.specs.Words.{linksOf, nodeAt, stepsOf, roadOf, planOf, planWord, planWords, traceOf}
-use Rattle.lists.specs.Refusals.{sizes, linkFault, fresh, rampFault, startFault, demandFault, linkRefusal, rampRefusal, startRefusal, demandRefusal, ranges}
+use Rattle.faults.specs.Lists.{linkFault, rampFault, startFault, demandFault}
+use Rattle.lists.specs.Refusals.{sizes, fresh, linkRefusal, rampRefusal, startRefusal, demandRefusal, ranges}
 use Rattle.simulate.proofs.Case.{case-1}
-use Rattle.convert.specs.Refusals.{fixedFault, stepFault, costFault, judged}
+use Rattle.faults.specs.Records.{fixedFault, stepFault}
+use Rattle.convert.specs.Refusals.{costFault, judged}
 use Rattle.convert.specs.Convert.{settingAt, planFor, converted, convertAnswer}
 use Rattle.demands.specs.Cases.{Cases}
 

@@ -17,7 +17,7 @@ use Rattle.settings.specs.Share.{Gives, IsSetting}
 use Rattle.settings.proofs.Settings.{full-speed-iff}
 use Rattle.lists.specs.Words.{linksOf, stepsOf, roadOf, planOf, planLength, traceOf, recordLength}
 use Rattle.lists.specs.Refusals.{sizes, ranges, bounds, limits}
-use Rattle.lists.proofs.Tests.{eq-holds}
+use Rattle.faults.proofs.Tests.{eq-holds}
 use Rattle.lists.proofs.Limits.{sized-iff, bounds-iff, limits-iff}
 use Rattle.lists.proofs.Words.{plan-length, record-length}
 use Rattle.simulate.specs.Simulate.{simulateSizes, simulateAnswer, simulated}

@@ -17,7 +17,8 @@ use Rattle.road.specs.Corridor.{Link, Ramp, NodeState, Node, Road, Plan, Flows,
 use Rattle.road.specs.Step.{Junction, sending, outflow}
 use Rattle.road.specs.Run.{junction, next, cost}
 use Rattle.lists.specs.Words.{linksOf, stepsOf, roadOf, planOf, traceOf, traceLength, planLength, recordLength}
-use Rattle.lists.specs.Refusals.{within, implies, linkFault, fresh, rampFault, startFault, demandFault, planFault, linkRefusal, rampRefusal, startRefusal, demandRefusal, ranges, bounds, sizes}
+use Rattle.faults.specs.Lists.{within, implies, linkFault, rampFault, startFault, demandFault, planFault}
+use Rattle.lists.specs.Refusals.{fresh, linkRefusal, rampRefusal, startRefusal, demandRefusal, ranges, bounds, sizes}
 use Rattle.lists.proofs.Limits.{sizes-iff}
 use Rattle.simulate.specs.Simulate.{simulateSizes, simulateAnswer, simulated}
 use Rattle.convert.specs.Convert.{checkAnswer, convertAnswer, normalRefusal, normalAnswer}
@@ -30,7 +31,8 @@ use Rattle.block.specs.Calls.{toldFits, fileAnswer, readAnswer, writeAnswer}
 use Rattle.block.proofs.Bounds.{file-bounded, read-bounded, write-bounded}
 use Rattle.block.proofs.Calls.{told-is, length-high}
 use Rattle.files.specs.Files.{corridorIn, demandsIn, recordIn, filesAnswer, readThenCheck, checkFiles, convertFiles}
-use Rattle.convert.specs.Refusals.{sameState, unlessThen, fixedFault, stepFault, costFault, fixedAt, stepAt, judged}
+use Rattle.faults.specs.Records.{sameState, unlessThen, fixedFault, stepFault}
+use Rattle.convert.specs.Refusals.{costFault, fixedAt, stepAt, judged}
 
 -- ---- each fault's number is small
 

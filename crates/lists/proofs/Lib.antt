@@ -1,8 +1,7 @@
 pub mod Rows
-pub mod Faults
+pub mod Identifiers
 pub mod Scans
 pub mod Sizes
-pub mod Tests
 pub mod Limits
 pub mod Words
 pub mod Fits

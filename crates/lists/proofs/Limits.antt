@@ -1,6 +1,6 @@
 -- Within limits, as refusals 1 to 6 test it and as facts: each refusal is due exactly where its facts fail.
 use Prim.Native.Nat.{ℕ, zero, suc, _≤_, _<_}
-use mathlib.Core.Bool.{Bool, true}
+use mathlib.Core.Bool.{Bool, true, false}
 use mathlib.Core.List.{List}
 use mathlib.Core.Path.{_≡_, refl, sym, subst}
 use mathlib.Core.Logic.{_↔_}
@@ -13,13 +13,14 @@ use Rattle.tables.specs.Answer.{orElse, sized}
 use Rattle.tables.specs.Least.{least}
 use Rattle.tables.proofs.Numbers.{not-both}
 use Rattle.tables.proofs.Least.{least-below, least-is}
-use Rattle.tables.proofs.Answers.{orElse-accepts, refusal-unless}
+use Rattle.tables.proofs.Answers.{Refuses, orElse-accepts, refusal-unless}
 use Rattle.tables.proofs.First.{firstNode-accepts, firstPlace-accepts}
 use Rattle.road.specs.Corridor.{Link, Ramp, Node, Road, Plan, nodes}
 use Rattle.road.specs.Limits.{Within, LinkLimits, NoLink, RampLimits, NoRamp, StartLimits, Identified, DemandLimits, Limits, Bounds, Bounded}
 use Rattle.lists.specs.Words.{linksOf, stepsOf, roadOf, corridorLength, demandsLength}
-use Rattle.lists.specs.Refusals.{sizes, linkFault, fresh, rampFault, startFault, demandFault, planFault, linkRefusal, rampRefusal, startRefusal, demandRefusal, ranges, bounds, limits}
-use Rattle.lists.proofs.Tests.{le-holds, eq-holds, both-hold, implies-holds, within-holds, no-fault}
+use Rattle.faults.specs.Lists.{linkFault, rampFault, startFault, demandFault, planFault}
+use Rattle.lists.specs.Refusals.{sizes, fresh, linkRefusal, rampRefusal, startRefusal, demandRefusal, ranges, bounds, limits}
+use Rattle.faults.proofs.Tests.{le-holds, eq-holds, both-hold, implies-holds, within-holds, no-fault}
 
 -- ---- 1. N, K and the lengths of the two lists
 
@@ -43,6 +44,10 @@ sizes-iff corridor demands =
 -- of a test that is all there is to refusal 1
 pub sized-iff : (fits : Bool) → (sized fits ≡ Accepted) ↔ (fits ≡ true)
 sized-iff fits = refusal-unless fits 1 0 0 (λ e. omega arith)
+
+pub sized-refuses : (fits : Bool) → Refuses (sized fits) → fits ≡ false
+sized-refuses true r = absurd r
+sized-refuses false r = refl
 
 -- ---- 2. links
 

@@ -16,7 +16,8 @@ use Rattle.tables.proofs.First.{Passed, passed-stop, passed-ended, first-same, 
 use Rattle.tables.proofs.Part.{part-at}
 use Rattle.road.specs.Corridor as Road
 use Rattle.lists.specs.Words.{linksOf, stepsOf, nodeAt, roadOf, planOf}
-use Rattle.lists.specs.Refusals.{linkFault, startFault, demandFault, planFault, linkRefusal, rampRefusal, startRefusal, demandRefusal, ranges, bounds, planBounds}
+use Rattle.faults.specs.Lists.{linkFault, startFault, demandFault, planFault}
+use Rattle.lists.specs.Refusals.{linkRefusal, rampRefusal, startRefusal, demandRefusal, ranges, bounds, planBounds}
 use Rattle.lists.specs.declared.inner.scans.NodeTest.{NodeTest}
 use Rattle.lists.specs.declared.inner.scans.NodeTest.the-variants.{Link, Ramp, Start, Demand, Plan}
 use Rattle.lists.specs.Fits.{RowFits, NodeIn}

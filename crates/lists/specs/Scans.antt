@@ -11,7 +11,8 @@ use Rattle.tables.specs.Grid.{place}
 use Rattle.lists.specs.declared.inner.scans.NodeTest.{NodeTest}
 use Rattle.lists.specs.declared.inner.scans.NodeTest.the-variants.{Link, Ramp, Start, Demand, Plan}
 use Rattle.lists.specs.Words.{nodeAt, corridorLength, demandsLength}
-use Rattle.lists.specs.Refusals.{within, linkFault, fresh, rampFault, startFault, demandFault, planFault}
+use Rattle.faults.specs.Lists.{within, linkFault, rampFault, startFault, demandFault, planFault}
+use Rattle.lists.specs.Refusals.{fresh}
 use Rattle.lists.specs.Fits.{RowFits}
 
 -- 1, of numbers

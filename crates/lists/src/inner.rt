@@ -1,4 +1,4 @@
 // What other crates use of the word lists: most of it asks something of its caller.
-pub mod faults;
+pub mod identifiers;
 pub mod scans;
 pub mod words;

@@ -6,7 +6,7 @@ use lib.ListN.{length, getD, take}
 use lib.Seq.{sets}
 use Rattle.tables.specs.Grid.{rowWords}
 use Rattle.road.specs.Corridor as Road
-use Rattle.lists.specs.Refusals.{within}
+use Rattle.faults.specs.Lists.{within}
 use Rattle.nodes.specs.declared.Node.{Node}
 use Rattle.nodes.specs.declared.inner.words.Words.{Words}
 

@@ -10,8 +10,10 @@ use Rattle.road.specs.Run.{supply, junction, inflow, next, cost}
 use Rattle.settings.specs.Rate.{fullFlows, gives, rateFor}
 use Rattle.settings.specs.Setting.{heldLimit, settingFor}
 use Rattle.lists.specs.Words.{linksOf, nodeAt, stepsOf, roadOf, traceOf}
-use Rattle.lists.specs.Refusals.{sizes, linkFault, fresh, rampFault, startFault, demandFault, linkRefusal, rampRefusal, startRefusal, demandRefusal, ranges}
-use Rattle.convert.specs.Refusals.{fixedFault, stepFault, costFault, judged}
+use Rattle.faults.specs.Lists.{linkFault, rampFault, startFault, demandFault}
+use Rattle.lists.specs.Refusals.{sizes, fresh, linkRefusal, rampRefusal, startRefusal, demandRefusal, ranges}
+use Rattle.faults.specs.Records.{fixedFault, stepFault}
+use Rattle.convert.specs.Refusals.{costFault, judged}
 use Rattle.convert.specs.Convert.{settingAt, checkAnswer}
 use Rattle.payload.specs.Word.{wordAt}
 use Rattle.payload.specs.Block.{checkWord, bodyWord, blockWord}

@@ -17,9 +17,9 @@ use Rattle.tables.proofs.Tabulate.{tabulate-at}
 use Rattle.road.specs.Corridor.{Road}
 use Rattle.road.specs.Run.{cost}
 use Rattle.lists.specs.Words.{linksOf, stepsOf, roadOf, traceOf, corridorLength, demandsLength, traceLength, recordLength}
-use Rattle.lists.specs.Refusals.{within}
+use Rattle.faults.specs.Lists.{within}
 use Rattle.lists.proofs.Limits.{sized-iff}
-use Rattle.lists.proofs.Tests.{within-holds}
+use Rattle.faults.proofs.Tests.{within-holds}
 use Rattle.convert.proofs.Facts.{judged-iff}
 use Rattle.payload.specs.File.{blocksFor, wordIn, payloadWord}
 use Rattle.payload.specs.Reading.{tested}

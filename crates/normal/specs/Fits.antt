@@ -8,7 +8,7 @@ use lib.ListN.{length, take}
 use Rattle.tables.specs.declared.Answer.{Answer}
 use Rattle.tables.specs.Answer.{orElse, sized}
 use Rattle.lists.specs.Words.{corridorLength, demandsLength, traceLength, recordLength}
-use Rattle.lists.specs.Refusals.{within}
+use Rattle.faults.specs.Lists.{within}
 use Rattle.payload.specs.File.{blocksFor, payloadWord}
 use Rattle.payload.specs.Reading.{tested}
 use Rattle.files.specs.Files.{readThenCheck}

@@ -13,7 +13,7 @@ use Rattle.tables.specs.Answer.{orElse, sized}
 use Rattle.tables.proofs.Answers.{Refuses, orElse-accepts, or-else-stop, or-else-next}
 use Rattle.lists.specs.Words.{linksOf, stepsOf, roadOf, planOf, recordWidth, planLength, recordLength}
 use Rattle.lists.specs.Refusals.{sizes, ranges, bounds, planBounds}
-use Rattle.lists.proofs.Tests.{both-hold, eq-holds}
+use Rattle.faults.proofs.Tests.{both-hold, eq-holds}
 use Rattle.lists.proofs.Limits.{sizes-iff, sized-iff, ranges-iff, bounds-iff}
 use Rattle.simulate.specs.Simulate.{simulateSizes, simulateAnswer, Sound}
 
@@ -23,10 +23,6 @@ pub few : (corridor demands : List ℕ) (links steps : ℕ) (t : Bool) → t ≡
 few corridor demands links steps t e h n k =
     let s = sizes-iff corridor demands .0 (sym e ∙ h) in
     (omega (arith, s .links), omega (arith, s .steps))
-
--- the record's length, with the width as the code has it
-pub record-words : (links steps width m : ℕ) → m ≡ recordLength width links steps → width ≡ recordWidth → m ≡ recordLength recordWidth links steps
-record-words links steps width m e w = e ∙ ap (λ (x : ℕ). recordLength x links steps) w
 
 -- ---- 1
 

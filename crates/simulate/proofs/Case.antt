@@ -8,7 +8,8 @@ use Rattle.tables.specs.Tabulate.{tabulate}
 use Rattle.road.specs.Step.{sending, exit, through, offer, receiving, passed, merge, flowsWith, outflow, moved}
 use Rattle.road.specs.Run.{supply, junction, inflow, next, planFlows, stateAt, noFlow, run, cost}
 use Rattle.lists.specs.Words.{linksOf, nodeAt, stepsOf, roadOf, planOf, nodeWord, traceWords, recordWords}
-use Rattle.lists.specs.Refusals.{sizes, linkFault, fresh, rampFault, startFault, demandFault, planFault, linkRefusal, rampRefusal, startRefusal, demandRefusal, ranges, bounds}
+use Rattle.faults.specs.Lists.{linkFault, rampFault, startFault, demandFault, planFault}
+use Rattle.lists.specs.Refusals.{sizes, fresh, linkRefusal, rampRefusal, startRefusal, demandRefusal, ranges, bounds}
 use Rattle.simulate.specs.Simulate.{simulateSizes, simulateAnswer, simulated}
 use Rattle.simulate.specs.B.{Case1}
 

@@ -233,19 +233,12 @@ module _ (width : ℕ) (corridor demands plan : List ℕ) where
 
 -- ---- the cost after the rows
 
-pub record-is-written : (corridor demands plan g d : List ℕ) (width total : ℕ) → width ≡ recordWidth → RanAll width corridor demands plan g total
+pub record-is-written : (corridor demands plan g d : List ℕ) (total : ℕ) → RanAll recordWidth corridor demands plan g total
     → length d ≡ recordLength recordWidth (linksOf corridor) (stepsOf demands)
     → set (set (g ++ drop (length d - 2) d) (length d - 2) (total % 4294967296)) (length d - 2 + 1) (total / 4294967296) ≡ simulated corridor demands plan
 unfolding simulated recordWords runWords runCost roadOf
-record-is-written corridor demands plan g d width total w ran h =
-    let e : g ≡ runWords recordWidth corridor demands plan = ran .written ∙ ap (λ (x : ℕ). runWords x corridor demands plan) w in
-    let fits : length g ≡ length d - 2 = ap length e ∙ trace-length _ _ _ ∙ omega arith in
+record-is-written corridor demands plan g d total ran h =
+    let fits : length g ≡ length d - 2 = ap length (ran .written) ∙ trace-length _ _ _ ∙ omega arith in
     two-after g d (length d - 2) (total % 4294967296) (total / 4294967296) fits (omega arith)
-    ∙ ap (λ (x : List ℕ). x ++ lowHigh total) e
+    ∙ ap (λ (x : List ℕ). x ++ lowHigh total) (ran .written)
     ∙ ap (λ (x : ℕ). runWords recordWidth corridor demands plan ++ lowHigh x) (ran .adds)
-
--- the room for the words of all states
-pub states-lent : (corridor demands d : List ℕ) (width : ℕ) → width ≡ recordWidth → length d ≡ recordLength recordWidth (linksOf corridor) (stepsOf demands)
-    → length d - 2 ≡ traceLength width (linksOf corridor) (stepsOf demands)
-states-lent corridor demands d width w e = let q : length d - 2 ≡ traceLength recordWidth (linksOf corridor) (stepsOf demands) = omega arith in
-    q ∙ ap (λ (x : ℕ). traceLength x (linksOf corridor) (stepsOf demands)) (sym w)

@@ -4,7 +4,7 @@ ghost use mathlib.Core.Bool.{_&&_};
 ghost use Prim.Native.Nat.{_≤_};
 ghost use lib.Dec.{eqb};
 ghost use lib.ListN.{length, getD};
-ghost use Rattle.lists.specs.Refusals.{within};
+ghost use Rattle.faults.specs.Lists.{within};
 ghost use Rattle.block.specs.Kinds.{Told, ownAgrees};
 ghost use Rattle.block.specs.Calls.{toldFits, fileAnswer, readAnswer, wordsRead, writeAnswer, fileWritten};
 use crate::Kind;

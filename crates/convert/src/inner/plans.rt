@@ -1,36 +1,42 @@
 // The converter's plan: the settings of one step in the plan's row, and those of all steps.
 ghost use mathlib.Core.Path.{_≡_};
-ghost use Prim.Native.Nat.{ℕ, _+_, _*_, _≤_};
+ghost use Prim.Native.Nat.{_+_, _*_, _≤_, _<_};
 ghost use lib.ListN.{length, set};
 ghost use Rattle.tables.specs.declared.Answer.the-variants.{Accepted};
 ghost use Rattle.settings.specs.Setting.{rateIn, limitIn};
-ghost use Rattle.lists.specs.Words.{linksOf, stepsOf, roadOf, planLength};
-ghost use Rattle.lists.specs.Rows.{stateIn, flowsIn};
-ghost use Rattle.lists.specs.Fits.{CorridorFits, RowFits};
+ghost use Rattle.lists.specs.Words.{linksOf, stepsOf, roadOf, recordWidth, planLength};
+ghost use Rattle.lists.specs.Fits.{RowFits, NodeIn};
 ghost use Rattle.convert.specs.Refusals.{judged};
 ghost use Rattle.convert.specs.Convert.{converted};
-ghost use Rattle.convert.specs.Rows.{settingIn, planRow, NodeKept, Ready};
+ghost use Rattle.convert.specs.Rows.{settingIn, planRow, RowsKept, SentKept, Ready};
 use lists::inner::scans;
 use lists::inner::words;
 use road::Speed;
+use road::Units;
 use settings::Setting;
 
 // The setting of node i that gives a row's flows from its state.
-pub fn setting_at(corridor: &[u32], links: usize, demand: &[u32], row: &[u32], i: usize) -> Setting
-    requires { ⌜ (CorridorFits (now corridor) links) × (RowFits 2 (now demand) links) × (RowFits 4 (now row) links) ⌝ }
-    requires { ⌜ ((j : ℕ) → j ≤ links → NodeKept (now corridor) (now demand) (now row) j) ⌝ }
-    requires { ⌜ ((j : ℕ) → j ≤ links → flowsIn (now row) j .main ≤ stateIn (now row) j .vehicles) ⌝ }
+pub fn setting_at(
+    corridor: &[u32],
+    links: usize,
+    demand: &[u32],
+    downstream: Units,
+    row: &[u32],
+    width: usize,
+    i: usize,
+) -> Setting
+    requires { ⌜ RowsKept width (now corridor) (now demand) (now row) links × SentKept width (now row) links ⌝ }
     requires { ⌜ i ≤ links ⌝ }
-    ensures { λ r. ⌜ r ≡ settingIn (now (corridor .entry)) (now (demand .entry)) (now (row .entry)) i ⌝ }
+    ensures { λ r. ⌜ r ≡ settingIn width (now (corridor .entry)) (now (demand .entry)) (downstream .0) (now (row .entry)) i ⌝ }
 {
-    let junction = words::junction_at(corridor, links, demand, row, i);
-    let flows = words::flows_at(row, i);
+    let junction = words::junction_at(corridor, links, demand, downstream, row, width, i);
+    let flows = words::flows_at(row, width, i);
     settings::inner::setting_for(junction, flows)
 }
 
 // A setting's rate and limit, stored as the words of node i: a full node posts its full speed, a held one its limit.
 fn put_setting(out: &mut [u32], i: usize, setting: Setting, full: Speed)
-    requires { ⌜ i * 2 + 2 ≤ length (now out) ⌝ }
+    requires { ⌜ NodeIn 2 (now out) i ⌝ }
     ensures { λ _. ⌜ now (out .exit) ≡ set (set (now (out .entry)) (i * 2) (rateIn setting)) (i * 2 + 1) (limitIn (full .0) setting) ⌝ }
 {
     let at = i * 2;
@@ -47,16 +53,23 @@ fn put_setting(out: &mut [u32], i: usize, setting: Setting, full: Speed)
 }
 
 // The plan's row of a step, whose rows of the demands and of the record are lent.
-pub fn plan_row(corridor: &[u32], links: usize, demand: &[u32], row: &[u32], out: &mut [u32])
-    requires { ⌜ (CorridorFits (now corridor) links) × (RowFits 2 (now demand) links) × (RowFits 4 (now row) links) × (RowFits 2 (now out) links) ⌝ }
-    requires { ⌜ ((j : ℕ) → j ≤ links → NodeKept (now corridor) (now demand) (now row) j) ⌝ }
-    requires { ⌜ ((j : ℕ) → j ≤ links → flowsIn (now row) j .main ≤ stateIn (now row) j .vehicles) ⌝ }
-    ensures { λ _. ⌜ now (out .exit) ≡ planRow (now (corridor .entry)) links (now (demand .entry)) (now (row .entry)) ⌝ }
+pub fn plan_row(
+    corridor: &[u32],
+    links: usize,
+    demand: &[u32],
+    downstream: Units,
+    row: &[u32],
+    width: usize,
+    out: &mut [u32],
+)
+    requires { ⌜ RowsKept width (now corridor) (now demand) (now row) links × SentKept width (now row) links ⌝ }
+    requires { ⌜ RowFits 2 (now out) links ⌝ }
+    ensures { λ _. ⌜ now (out .exit) ≡ planRow width (now (corridor .entry)) links (now (demand .entry)) (downstream .0) (now (row .entry)) ⌝ }
 {
     let nodes = links + 1;
     let mut i: usize = 0;
     while i < nodes {
-        let setting = setting_at(corridor, links, demand, row, i);
+        let setting = setting_at(corridor, links, demand, downstream, row, width, i);
         let link = words::link_at(corridor, i);
         put_setting(out, i, setting, link.full_speed);
         i += 1;
@@ -72,13 +85,14 @@ fn write_rows(
     words: &[u32],
     plan: &mut [u32],
 )
-    requires { ⌜ Ready (now corridor) (now demands) (now words) links steps ⌝ }
-    requires { ⌜ judged (roadOf (now corridor) (now demands)) (now words) ≡ Accepted ⌝ }
+    requires { ⌜ Ready recordWidth (now corridor) (now demands) (now words) links steps ⌝ }
+    requires { ⌜ judged recordWidth (roadOf (now corridor) (now demands)) (now words) ≡ Accepted ⌝ }
     requires { ⌜ length (now plan) ≡ planLength links steps ⌝ }
     ensures { λ _. ⌜ now (plan .exit) ≡ converted (now (corridor .entry)) (now (demands .entry)) (now (words .entry)) ⌝ }
 {
+    let width = words::RECORD_WIDTH;
     let narrow = (links + 1) * 2;
-    let wide = (links + 1) * 4;
+    let wide = scans::state_words(links, width);
     let mut k: usize = 0;
     while k < steps {
         let at = scans::row_at(k, narrow, steps);
@@ -91,7 +105,9 @@ fn write_rows(
             corridor,
             links,
             &demands[first..past],
+            words::downstream(),
             &words[from..to],
+            width,
             &mut plan[at..end],
         );
         k += 1;
@@ -100,8 +116,8 @@ fn write_rows(
 
 // The plan of a record that is accepted.
 pub fn write_plan(corridor: &[u32], demands: &[u32], words: &[u32], plan: &mut [u32])
-    requires { ⌜ Ready (now corridor) (now demands) (now words) (linksOf (now corridor)) (stepsOf (now demands)) ⌝ }
-    requires { ⌜ judged (roadOf (now corridor) (now demands)) (now words) ≡ Accepted ⌝ }
+    requires { ⌜ Ready recordWidth (now corridor) (now demands) (now words) (linksOf (now corridor)) (stepsOf (now demands)) ⌝ }
+    requires { ⌜ judged recordWidth (roadOf (now corridor) (now demands)) (now words) ≡ Accepted ⌝ }
     requires { ⌜ length (now plan) ≡ planLength (linksOf (now corridor)) (stepsOf (now demands)) ⌝ }
     ensures { λ _. ⌜ now (plan .exit) ≡ converted (now (corridor .entry)) (now (demands .entry)) (now (words .entry)) ⌝ }
 {

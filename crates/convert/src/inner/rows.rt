@@ -1,87 +1,101 @@
 // The checker on the rows of one step: the first node of a row with refusal 7, and of a step with one of 8 to 12.
 ghost use mathlib.Core.Path.{_≡_};
-ghost use Prim.Native.Nat.{ℕ, suc, _+_, _*_, _≤_};
-ghost use lib.ListN.{length, getD};
+ghost use Prim.Native.Nat.{suc, _+_, _*_, _≤_};
+ghost use lib.ListN.{getD};
+ghost use Rattle.tables.specs.Answer.{refusal};
 ghost use Rattle.tables.specs.First.{firstNode};
 ghost use Rattle.road.specs.Step.{outflow};
 ghost use Rattle.road.specs.Run.{inflow};
+ghost use Rattle.lists.specs.Words.{Width};
 ghost use Rattle.lists.specs.Rows.{flowsIn, stepRoad};
-ghost use Rattle.lists.specs.Fits.{CorridorFits, RowFits};
-ghost use Rattle.convert.specs.Rows.{fixedFaultIn, stepFaultIn, NodeKept};
-use crate::inner::faults;
+ghost use Rattle.lists.specs.Fits.{CorridorFits, NodeFits, RowFits, NodeIn};
+ghost use Rattle.convert.specs.Rows.{fixedFaultIn, stepFaultIn, RowsKept};
+use faults::inner::records;
 use lists::inner::words;
 use road::Units;
 use tables::Answer;
+use tables::is_refused;
+use tables::refusal;
 
 // Refusal 7 at node i, in the record's row k.
-fn fixed_number(
+fn fixed_answer(
     corridor: &[u32],
     links: usize,
     steps: usize,
     k: usize,
     row: &[u32],
+    width: usize,
     i: usize,
-) -> u32
-    requires { ⌜ (1 + (i * 9 + 9) ≤ length (now corridor)) × (i * 4 + 4 ≤ length (now row)) ⌝ }
-    ensures { λ r. ⌜ r ≡ fixedFaultIn (now (corridor .entry)) links steps k (now (row .entry)) i ⌝ }
+) -> Answer
+    requires { ⌜ NodeFits (now corridor) i × NodeIn width (now row) i × Width width ⌝ }
+    requires { ⌜ (k ≤ 1440) × (i ≤ 64) ⌝ }
+    ensures { λ r. ⌜ r ≡ refusal (fixedFaultIn width (now (corridor .entry)) links steps k (now (row .entry)) i) k i ⌝ }
 {
     let start = words::start_at(corridor, i);
-    let state = words::state_at(row, i);
-    let flows = words::flows_at(row, i);
-    faults::fixed_fault(links, steps, k, i, start, state, flows)
+    let state = words::state_at(row, width, i);
+    let flows = words::flows_at(row, width, i);
+    let number = records::fixed_fault(links, steps, k, i, start, state, flows);
+    refusal(number, k as u32, i as u32)
 }
 
 // The first node of the record's row k with refusal 7.
-pub fn fixed_row(corridor: &[u32], links: usize, steps: usize, k: usize, row: &[u32]) -> Answer
+pub fn fixed_row(
+    corridor: &[u32],
+    links: usize,
+    steps: usize,
+    k: usize,
+    row: &[u32],
+    width: usize,
+) -> Answer
     requires { ⌜ CorridorFits (now corridor) links ⌝ }
-    requires { ⌜ (k ≤ 1440) × RowFits 4 (now row) links ⌝ }
-    ensures { λ r. ⌜ r ≡ firstNode (suc links) k (fixedFaultIn (now (corridor .entry)) links steps k (now (row .entry))) ⌝ }
+    requires { ⌜ (k ≤ 1440) × RowFits width (now row) links × Width width ⌝ }
+    ensures { λ r. ⌜ r ≡ firstNode (suc links) k (fixedFaultIn width (now (corridor .entry)) links steps k (now (row .entry))) ⌝ }
 {
     let nodes = links + 1;
     let mut i: usize = 0;
     while i < nodes {
-        let number = fixed_number(corridor, links, steps, k, row, i);
-        if number != 0 {
-            return Answer::Refused {
-                number,
-                row: k as u32,
-                node: i as u32,
-            };
+        let answer = fixed_answer(corridor, links, steps, k, row, width, i);
+        if is_refused(answer) {
+            return answer;
         }
         i += 1;
     }
     Answer::Accepted
 }
 
-// One of refusals 8 to 12 at node i of a step, whose link gains `gained`.
-fn step_number(
+// One of refusals 8 to 12 at node i of step k, whose link gains `gained`.
+fn step_answer(
+    k: usize,
     corridor: &[u32],
     links: usize,
     demand: &[u32],
+    downstream: Units,
     row: &[u32],
     after: &[u32],
+    width: usize,
     gained: u32,
     i: usize,
-) -> u32
-    requires { ⌜ (CorridorFits (now corridor) links) × (RowFits 2 (now demand) links) × (RowFits 4 (now row) links) × (RowFits 4 (now after) links) ⌝ }
-    requires { ⌜ ((j : ℕ) → j ≤ links → NodeKept (now corridor) (now demand) (now row) j) ⌝ }
-    requires { ⌜ (i ≤ links) × (gained ≤ 134283264) × (gained ≡ inflow (stepRoad (now corridor) (now demand)) 0 (flowsIn (now row)) i) ⌝ }
-    ensures { λ r. ⌜ r ≡ stepFaultIn (now (corridor .entry)) (now (demand .entry)) (now (row .entry)) (now (after .entry)) i ⌝ }
+) -> Answer
+    requires { ⌜ RowsKept width (now corridor) (now demand) (now row) links ⌝ }
+    requires { ⌜ RowFits width (now after) links × (k ≤ 1440) ⌝ }
+    requires { ⌜ (i ≤ links) × (gained ≤ 134283264) × (gained ≡ inflow (stepRoad (now corridor) (now demand) (downstream .0)) 0 (flowsIn width (now row)) i) ⌝ }
+    ensures { λ r. ⌜ r ≡ refusal (stepFaultIn width (now (corridor .entry)) (now (demand .entry)) (downstream .0) (now (row .entry)) (now (after .entry)) i) k i ⌝ }
 {
-    let junction = words::junction_at(corridor, links, demand, row, i);
-    let flows = words::flows_at(row, i);
+    let junction = words::junction_at(corridor, links, demand, downstream, row, width, i);
+    let flows = words::flows_at(row, width, i);
     let arrivals = words::arrivals_at(demand, i);
-    let state = words::state_at(after, i);
-    faults::step_fault(junction, flows, Units(gained), arrivals, state)
+    let state = words::state_at(after, width, i);
+    let number = records::step_fault(junction, flows, Units(gained), arrivals, state);
+    refusal(number, k as u32, i as u32)
 }
 
 // What node i passes on.
-fn outflow_at(demand: &[u32], row: &[u32], i: usize) -> u32
-    requires { ⌜ (i * 2 + 2 ≤ length (now demand)) × (i * 4 + 4 ≤ length (now row)) ⌝ }
-    requires { ⌜ (getD (now demand) (i * 2 + 1) 0 ≤ 65536) × (flowsIn (now row) i .main + flowsIn (now row) i .ramp ≤ 134283264) ⌝ }
-    ensures { λ r. ⌜ (r ≡ outflow (flowsIn (now (row .entry)) i) (getD (now (demand .entry)) (i * 2 + 1) 0)) × (r ≤ 134283264) ⌝ }
+fn outflow_at(demand: &[u32], row: &[u32], width: usize, i: usize) -> u32
+    requires { ⌜ NodeIn 2 (now demand) i × NodeIn width (now row) i × Width width ⌝ }
+    requires { ⌜ (getD (now demand) (i * 2 + 1) 0 ≤ 65536) × (flowsIn width (now row) i .main + flowsIn width (now row) i .ramp ≤ 134283264) ⌝ }
+    ensures { λ r. ⌜ (r ≡ outflow (flowsIn width (now (row .entry)) i) (getD (now (demand .entry)) (i * 2 + 1) 0)) × (r ≤ 134283264) ⌝ }
 {
-    let flows = words::flows_at(row, i);
+    let flows = words::flows_at(row, width, i);
     let split = words::split_at(demand, i);
     road::inner::outflow(flows, split).0
 }
@@ -92,27 +106,35 @@ pub fn step_row(
     corridor: &[u32],
     links: usize,
     demand: &[u32],
+    downstream: Units,
     row: &[u32],
     after: &[u32],
+    width: usize,
 ) -> Answer
-    requires { ⌜ (CorridorFits (now corridor) links) × (RowFits 2 (now demand) links) × (RowFits 4 (now row) links) × (RowFits 4 (now after) links) ⌝ }
-    requires { ⌜ ((j : ℕ) → j ≤ links → NodeKept (now corridor) (now demand) (now row) j) ⌝ }
-    requires { ⌜ k ≤ 1440 ⌝ }
-    ensures { λ r. ⌜ r ≡ firstNode (suc links) k (stepFaultIn (now (corridor .entry)) (now (demand .entry)) (now (row .entry)) (now (after .entry))) ⌝ }
+    requires { ⌜ RowsKept width (now corridor) (now demand) (now row) links ⌝ }
+    requires { ⌜ RowFits width (now after) links × (k ≤ 1440) ⌝ }
+    ensures { λ r. ⌜ r ≡ firstNode (suc links) k (stepFaultIn width (now (corridor .entry)) (now (demand .entry)) (downstream .0) (now (row .entry)) (now (after .entry))) ⌝ }
 {
     let nodes = links + 1;
     let mut gained: u32 = 0;
     let mut i: usize = 0;
     while i < nodes {
-        let number = step_number(corridor, links, demand, row, after, gained, i);
-        if number != 0 {
-            return Answer::Refused {
-                number,
-                row: k as u32,
-                node: i as u32,
-            };
+        let answer = step_answer(
+            k,
+            corridor,
+            links,
+            demand,
+            downstream,
+            row,
+            after,
+            width,
+            gained,
+            i,
+        );
+        if is_refused(answer) {
+            return answer;
         }
-        gained = outflow_at(demand, row, i);
+        gained = outflow_at(demand, row, width, i);
         i += 1;
     }
     Answer::Accepted

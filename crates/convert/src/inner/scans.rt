@@ -2,34 +2,35 @@
 ghost use mathlib.Core.Path.{_≡_};
 ghost use mathlib.Core.Bool.{true, _&&_};
 ghost use mathlib.Core.List.{[]};
-ghost use Prim.Native.Nat.{suc, _≤_, _<_};
+ghost use Prim.Native.Nat.{_≤_, _<_};
 ghost use lib.ListN.{length};
 ghost use lib.Dec.{eqb};
 ghost use Rattle.tables.specs.declared.Answer.the-variants.{Accepted};
 ghost use Rattle.tables.specs.Answer.{orElse, refusal};
-ghost use Rattle.tables.specs.First.{firstNode};
 ghost use Rattle.road.specs.Run.{cost};
-ghost use Rattle.lists.specs.Words.{linksOf, stepsOf, roadOf, traceOf, planLength, recordLength};
+ghost use Rattle.lists.specs.Words.{linksOf, stepsOf, roadOf, recordWidth, Width, traceOf, planLength, recordLength};
 ghost use Rattle.lists.specs.Fits.{CorridorFits};
 ghost use Rattle.lists.specs.Refusals.{sizes, ranges};
-ghost use Rattle.convert.specs.Refusals.{costFault, stepAt, judged};
-ghost use Rattle.convert.specs.Rows.{bareRoad, fixedRefusal, stepsRefusal, Ready};
-use crate::inner::faults;
+ghost use Rattle.convert.specs.Refusals.{costFault, judged};
+ghost use Rattle.convert.specs.Rows.{bareRoad, fixedRowRefusal, fixedRefusal, stepRefusal, stepsRefusal, stateCostAt, Ready};
 use crate::inner::rows;
+use faults::inner::records;
 use lists::inner::scans;
 use lists::inner::words;
 use tables::Answer;
+use tables::is_refused;
+use tables::refusal;
 
 // Whether N, K and the lengths of the lists are right, with `count` words in the record.
 pub fn record_fits(corridor: &[u32], demands: &[u32], count: usize) -> bool
-    ensures { λ r. ⌜ r ≡ sizes (now (corridor .entry)) (now (demands .entry)) && eqb count (recordLength (linksOf (now (corridor .entry))) (stepsOf (now (demands .entry)))) ⌝ }
+    ensures { λ r. ⌜ r ≡ sizes (now (corridor .entry)) (now (demands .entry)) && eqb count (recordLength recordWidth (linksOf (now (corridor .entry))) (stepsOf (now (demands .entry)))) ⌝ }
 {
     if !scans::sizes(corridor, demands) {
         return false;
     }
     let links = words::links_of(corridor);
     let steps = words::steps_of(demands);
-    count == scans::table_length(steps + 1, (links + 1) * 4) + 2
+    count == simulate::inner::answer::record_length(links, steps, words::RECORD_WIDTH)
 }
 
 // Whether a plan of `count` words has the length that N and K tell.
@@ -39,7 +40,7 @@ pub fn plan_fits(corridor: &[u32], demands: &[u32], count: usize) -> bool
 {
     let links = words::links_of(corridor);
     let steps = words::steps_of(demands);
-    count == scans::table_length(steps, (links + 1) * 2)
+    count == simulate::inner::answer::plan_length(links, steps)
 }
 
 // Whether N and K are in range, both lists have their lengths, and `count` words are a plan's.
@@ -52,24 +53,42 @@ pub fn normal_fits(corridor: &[u32], demands: &[u32], count: usize) -> bool
     false
 }
 
-// The first state and node with refusal 7.
-pub fn scan_fixed(corridor: &[u32], links: usize, steps: usize, words: &[u32]) -> Answer
+// The first node of state k with refusal 7.
+fn fixed_at(
+    corridor: &[u32],
+    links: usize,
+    steps: usize,
+    words: &[u32],
+    width: usize,
+    k: usize,
+) -> Answer
     requires { ⌜ CorridorFits (now corridor) links ⌝ }
-    requires { ⌜ (steps ≤ 1440) × (length (now words) ≡ recordLength links steps) ⌝ }
-    ensures { λ r. ⌜ r ≡ fixedRefusal (now (corridor .entry)) links steps (now (words .entry)) ⌝ }
+    requires { ⌜ (steps ≤ 1440) × (k ≤ steps) × Width width × (length (now words) ≡ recordLength width links steps) ⌝ }
+    ensures { λ r. ⌜ r ≡ fixedRowRefusal width (now (corridor .entry)) links steps (now (words .entry)) k ⌝ }
 {
-    let width = (links + 1) * 4;
+    let wide = scans::state_words(links, width);
+    let at = scans::row_at(k, wide, steps + 1);
+    let end = at + wide;
+    rows::fixed_row(corridor, links, steps, k, &words[at..end], width)
+}
+
+// The first state and node with refusal 7.
+pub fn scan_fixed(
+    corridor: &[u32],
+    links: usize,
+    steps: usize,
+    words: &[u32],
+    width: usize,
+) -> Answer
+    requires { ⌜ CorridorFits (now corridor) links ⌝ }
+    requires { ⌜ (steps ≤ 1440) × Width width × (length (now words) ≡ recordLength width links steps) ⌝ }
+    ensures { λ r. ⌜ r ≡ fixedRefusal width (now (corridor .entry)) links steps (now (words .entry)) ⌝ }
+{
     let states = steps + 1;
     let mut k: usize = 0;
     while k < states {
-        let at = scans::row_at(k, width, states);
-        let end = at + width;
-        let answer = rows::fixed_row(corridor, links, steps, k, &words[at..end]);
-        if let Answer::Refused {
-            number: _,
-            row: _,
-            node: _,
-        } = answer {
+        let answer = fixed_at(corridor, links, steps, words, width, k);
+        if is_refused(answer) {
             return answer;
         }
         k += 1;
@@ -84,16 +103,17 @@ fn step_at(
     links: usize,
     steps: usize,
     words: &[u32],
+    width: usize,
     k: usize,
 ) -> Answer
-    requires { ⌜ Ready (now corridor) (now demands) (now words) links steps ⌝ }
-    requires { ⌜ fixedRefusal (now corridor) links steps (now words) ≡ Accepted ⌝ }
-    requires { ⌜ stepsRefusal (now corridor) (now demands) links (now words) k ≡ Accepted ⌝ }
+    requires { ⌜ Ready width (now corridor) (now demands) (now words) links steps ⌝ }
+    requires { ⌜ fixedRefusal width (now corridor) links steps (now words) ≡ Accepted ⌝ }
+    requires { ⌜ stepsRefusal width (now corridor) (now demands) links (now words) k ≡ Accepted ⌝ }
     requires { ⌜ k < steps ⌝ }
-    ensures { λ r. ⌜ r ≡ firstNode (suc links) k (stepAt (roadOf (now (corridor .entry)) (now (demands .entry))) (traceOf (roadOf (now (corridor .entry)) (now (demands .entry))) (now (words .entry))) k) ⌝ }
+    ensures { λ r. ⌜ r ≡ stepRefusal width (now (corridor .entry)) (now (demands .entry)) links (now (words .entry)) k ⌝ }
 {
     let narrow = (links + 1) * 2;
-    let wide = (links + 1) * 4;
+    let wide = scans::state_words(links, width);
     let at = 1 + scans::row_at(k, narrow, steps);
     let end = at + narrow;
     let from = scans::row_at(k, wide, steps + 1);
@@ -105,8 +125,10 @@ fn step_at(
         corridor,
         links,
         &demands[at..end],
+        words::downstream(),
         &words[from..to],
         &words[next..last],
+        width,
     )
 }
 
@@ -117,19 +139,16 @@ pub fn scan_steps(
     links: usize,
     steps: usize,
     words: &[u32],
+    width: usize,
 ) -> Answer
-    requires { ⌜ Ready (now corridor) (now demands) (now words) links steps ⌝ }
-    requires { ⌜ fixedRefusal (now corridor) links steps (now words) ≡ Accepted ⌝ }
-    ensures { λ r. ⌜ r ≡ stepsRefusal (now (corridor .entry)) (now (demands .entry)) links (now (words .entry)) steps ⌝ }
+    requires { ⌜ Ready width (now corridor) (now demands) (now words) links steps ⌝ }
+    requires { ⌜ fixedRefusal width (now corridor) links steps (now words) ≡ Accepted ⌝ }
+    ensures { λ r. ⌜ r ≡ stepsRefusal width (now (corridor .entry)) (now (demands .entry)) links (now (words .entry)) steps ⌝ }
 {
     let mut k: usize = 0;
     while k < steps {
-        let answer = step_at(corridor, demands, links, steps, words, k);
-        if let Answer::Refused {
-            number: _,
-            row: _,
-            node: _,
-        } = answer {
+        let answer = step_at(corridor, demands, links, steps, words, width, k);
+        if is_refused(answer) {
             return answer;
         }
         k += 1;
@@ -137,81 +156,68 @@ pub fn scan_steps(
     Answer::Accepted
 }
 
-// The cost of states 1..K.
-fn total_cost(links: usize, steps: usize, words: &[u32]) -> u64
-    requires { ⌜ (links ≤ 64) × (steps ≤ 1440) × (length (now words) ≡ recordLength links steps) ⌝ }
-    ensures { λ r. ⌜ r ≡ cost (bareRoad [] links steps) (traceOf (bareRoad [] links steps) (now (words .entry))) ⌝ }
+// The vehicles and queues of state k + 1.
+fn cost_at(links: usize, steps: usize, words: &[u32], width: usize, k: usize) -> u64
+    requires { ⌜ (links ≤ 64) × (steps ≤ 1440) × Width width × (length (now words) ≡ recordLength width links steps) × (k < steps) ⌝ }
+    ensures { λ r. ⌜ (r ≡ stateCostAt width links steps (now (words .entry)) k) × (r ≤ 558345748350) ⌝ }
 {
-    let width = (links + 1) * 4;
-    let states = steps + 1;
+    let wide = scans::state_words(links, width);
+    let at = scans::row_at(k + 1, wide, steps + 1);
+    let end = at + wide;
+    simulate::inner::rows::row_cost(links, &words[at..end], width)
+}
+
+// The cost of states 1..K.
+fn total_cost(links: usize, steps: usize, words: &[u32], width: usize) -> u64
+    requires { ⌜ (links ≤ 64) × (steps ≤ 1440) × Width width × (length (now words) ≡ recordLength width links steps) ⌝ }
+    ensures { λ r. ⌜ r ≡ cost (bareRoad [] links steps) (traceOf width (bareRoad [] links steps) (now (words .entry))) ⌝ }
+{
     let mut total: u64 = 0;
     let mut k: usize = 0;
     while k < steps {
-        let at = scans::row_at(k + 1, width, states);
-        let end = at + width;
-        total += simulate::inner::rows::row_cost(links, &words[at..end]);
+        total += cost_at(links, steps, words, width, k);
         k += 1;
     }
     total
 }
 
 // Refusal 13.
-pub fn scan_cost(links: usize, steps: usize, words: &[u32]) -> Answer
-    requires { ⌜ (links ≤ 64) × (steps ≤ 1440) × (length (now words) ≡ recordLength links steps) ⌝ }
-    ensures { λ r. ⌜ r ≡ refusal (costFault (bareRoad [] links steps) (now (words .entry))) 0 0 ⌝ }
+pub fn scan_cost(links: usize, steps: usize, words: &[u32], width: usize) -> Answer
+    requires { ⌜ (links ≤ 64) × (steps ≤ 1440) × Width width × (length (now words) ≡ recordLength width links steps) ⌝ }
+    ensures { λ r. ⌜ r ≡ refusal (costFault width (bareRoad [] links steps) (now (words .entry))) 0 0 ⌝ }
 {
-    let total = total_cost(links, steps, words);
-    let at = scans::table_length(steps + 1, (links + 1) * 4);
-    let number = faults::cost_fault(total, words[at], words[at + 1]);
-    if number != 0 {
-        return Answer::Refused {
-            number,
-            row: 0,
-            node: 0,
-        };
-    }
-    Answer::Accepted
+    let total = total_cost(links, steps, words, width);
+    let at = words.len() - 2;
+    refusal(records::total_fault(total, words[at], words[at + 1]), 0, 0)
 }
 
 // The first refusal of 7 to 13.
-pub fn judged(corridor: &[u32], demands: &[u32], words: &[u32]) -> Answer
-    requires { ⌜ Ready (now corridor) (now demands) (now words) (linksOf (now corridor)) (stepsOf (now demands)) ⌝ }
-    ensures { λ r. ⌜ r ≡ judged (roadOf (now (corridor .entry)) (now (demands .entry))) (now (words .entry)) ⌝ }
+pub fn judged(corridor: &[u32], demands: &[u32], words: &[u32], width: usize) -> Answer
+    requires { ⌜ Ready width (now corridor) (now demands) (now words) (linksOf (now corridor)) (stepsOf (now demands)) ⌝ }
+    ensures { λ r. ⌜ r ≡ judged width (roadOf (now (corridor .entry)) (now (demands .entry))) (now (words .entry)) ⌝ }
 {
     let links = words::links_of(corridor);
     let steps = words::steps_of(demands);
-    let fixed = scan_fixed(corridor, links, steps, words);
-    if let Answer::Refused {
-        number: _,
-        row: _,
-        node: _,
-    } = fixed {
+    let fixed = scan_fixed(corridor, links, steps, words, width);
+    if is_refused(fixed) {
         return fixed;
     }
-    let step = scan_steps(corridor, demands, links, steps, words);
-    if let Answer::Refused {
-        number: _,
-        row: _,
-        node: _,
-    } = step {
+    let step = scan_steps(corridor, demands, links, steps, words, width);
+    if is_refused(step) {
         return step;
     }
-    scan_cost(links, steps, words)
+    scan_cost(links, steps, words, width)
 }
 
 // The first refusal of 2 to 5 and of 7 to 13, where all lengths are right.
 pub fn contents(corridor: &[u32], demands: &[u32], words: &[u32]) -> Answer
     requires { ⌜ sizes (now corridor) (now demands) ≡ true ⌝ }
-    requires { ⌜ length (now words) ≡ recordLength (linksOf (now corridor)) (stepsOf (now demands)) ⌝ }
-    ensures { λ r. ⌜ r ≡ orElse (ranges (roadOf (now (corridor .entry)) (now (demands .entry)))) (judged (roadOf (now (corridor .entry)) (now (demands .entry))) (now (words .entry))) ⌝ }
+    requires { ⌜ length (now words) ≡ recordLength recordWidth (linksOf (now corridor)) (stepsOf (now demands)) ⌝ }
+    ensures { λ r. ⌜ r ≡ orElse (ranges (roadOf (now (corridor .entry)) (now (demands .entry)))) (judged recordWidth (roadOf (now (corridor .entry)) (now (demands .entry))) (now (words .entry))) ⌝ }
 {
     let answer = scans::ranges(corridor, demands);
-    if let Answer::Refused {
-        number: _,
-        row: _,
-        node: _,
-    } = answer {
+    if is_refused(answer) {
         return answer;
     }
-    judged(corridor, demands, words)
+    judged(corridor, demands, words, words::RECORD_WIDTH)
 }

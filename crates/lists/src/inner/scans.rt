@@ -6,12 +6,14 @@ ghost use lib.ListN.{length, getD};
 ghost use Rattle.tables.specs.Answer.{refusal};
 ghost use Rattle.tables.specs.First.{firstNode, firstPlace};
 ghost use Rattle.lists.specs.Words.{linksOf, stepsOf, nodeAt, roadOf, planLength, Width};
-ghost use Rattle.lists.specs.Refusals.{sizes, startFault, demandFault, planFault, ranges, planBounds};
+ghost use Rattle.faults.specs.Lists.{startFault, demandFault, planFault};
+ghost use Rattle.lists.specs.Refusals.{sizes, ranges, planBounds};
 ghost use Rattle.lists.specs.Scans.{lengthsFit, nodeFault, nodeFaultIn, nodeFaultAt, RowFor, corridorRefusal};
 ghost use Rattle.lists.specs.Fits.{CorridorFits, NodeFits, NodeIn};
 ghost use Rattle.lists.specs.declared.inner.scans.NodeTest.the-variants.{Ramp};
-use crate::inner::faults;
+use crate::inner::identifiers;
 use crate::inner::words;
+use faults::inner::lists;
 use tables::Answer;
 use tables::is_refused;
 use tables::refusal;
@@ -91,8 +93,8 @@ fn ramp_number(corridor: &[u32], links: usize, i: usize) -> u32
 {
     let identifier = words::identifier_at(corridor, i);
     let ramp = words::ramp_at(corridor, i);
-    let fresh = faults::fresh(corridor, i);
-    faults::ramp_fault(i == links, identifier, ramp, fresh)
+    let fresh = identifiers::fresh(corridor, i);
+    lists::ramp_fault(i == links, identifier, ramp, fresh)
 }
 
 // Refusal 4 at node i.
@@ -103,7 +105,7 @@ fn start_number(corridor: &[u32], i: usize) -> u32
     let link = words::link_at(corridor, i);
     let ramp = words::ramp_at(corridor, i);
     let start = words::start_at(corridor, i);
-    faults::start_fault(link, ramp, start)
+    lists::start_fault(link, ramp, start)
 }
 
 // Refusal 5 at node i, in a row of the demands.
@@ -111,7 +113,7 @@ fn demand_number(links: usize, row: &[u32], i: usize) -> u32
     requires { ⌜ NodeIn 2 (now row) i ⌝ }
     ensures { λ r. ⌜ r ≡ demandFault links i (getD (now (row .entry)) (i * 2 + 0) 0) (getD (now (row .entry)) (i * 2 + 1) 0) ⌝ }
 {
-    faults::demand_fault(
+    lists::demand_fault(
         links,
         i,
         words::arrivals_at(row, i).0,
@@ -126,7 +128,7 @@ fn plan_number(corridor: &[u32], row: &[u32], i: usize) -> u32
 {
     let link = words::link_at(corridor, i);
     let ramp = words::ramp_at(corridor, i);
-    faults::plan_fault(
+    lists::plan_fault(
         link,
         ramp,
         words::rate_at(row, i).0,
@@ -141,7 +143,7 @@ fn node_number(test: NodeTest, corridor: &[u32], links: usize, row: &[u32], i: u
     ensures { λ r. ⌜ r ≡ nodeFaultIn test (now (corridor .entry)) links (now (row .entry)) i ⌝ }
 {
     match test {
-        NodeTest::Link => faults::link_fault(i, words::link_at(corridor, i)),
+        NodeTest::Link => lists::link_fault(i, words::link_at(corridor, i)),
         NodeTest::Ramp => ramp_number(corridor, links, i),
         NodeTest::Start => start_number(corridor, i),
         NodeTest::Demand => demand_number(links, row, i),

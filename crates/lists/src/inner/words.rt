@@ -5,7 +5,7 @@ ghost use Prim.Native.Nat.{ℕ, _+_, _*_, _≤_, _<_};
 ghost use lib.ListN.{getD};
 ghost use Rattle.road.specs.Run.{supply, junction};
 ghost use Rattle.road.specs.Values.{linkOf, rampOf, stateOf, junctionOf, flowsOf};
-ghost use Rattle.lists.specs.Words.{linksOf, stepsOf, nodeAt, corridorWord, recordWidth, Width, free};
+ghost use Rattle.lists.specs.Words.{linksOf, stepsOf, nodeAt, corridorWord, Width, free};
 ghost use Rattle.lists.specs.Rows.{stateIn, flowsIn, stepRoad};
 ghost use Rattle.lists.specs.Fits.{CorridorFits, NodeFits, RowFits, NodeIn, JamKept};
 use road::Flows;
@@ -102,12 +102,8 @@ pub fn start_at(corridor: &[u32], i: usize) -> NodeState
     }
 }
 
-// How many words a node has in a record.
-pub fn record_width() -> usize
-    ensures { λ r. ⌜ (r ≡ recordWidth) × Width r ⌝ }
-{
-    4
-}
+// How many words a node has in a record: `recordWidth`.
+pub const RECORD_WIDTH: usize = 4;
 
 // The state of node i in a record's row.
 pub fn state_at(row: &[u32], width: usize, i: usize) -> NodeState

@@ -33,7 +33,7 @@ fn fits(corridor: &[u32], demands: &[u32], plan: &[u32], room: usize) -> bool
         let links = words::links_of(corridor);
         let steps = words::steps_of(demands);
         if plan.len() == plan_length(links, steps) {
-            return room == record_length(links, steps, words::record_width());
+            return room == record_length(links, steps, words::RECORD_WIDTH);
         }
         return false;
     }

@@ -137,8 +137,7 @@ pub fn write_record(corridor: &[u32], demands: &[u32], plan: &[u32], output: &mu
     ensures { λ _. ⌜ now (output .exit) ≡ simulated (now (corridor .entry)) (now (demands .entry)) (now (plan .entry)) ⌝ }
 {
     let end = output.len() - 2;
-    let width = words::record_width();
-    let total = run_all(corridor, demands, plan, &mut output[..end], width);
+    let total = run_all(corridor, demands, plan, &mut output[..end], words::RECORD_WIDTH);
     output[end] = (total % 4294967296) as u32;
     output[end + 1] = (total / 4294967296) as u32;
 }

@@ -4,7 +4,7 @@ use native.Mathlib.Omega.{arith}
 use borrow.Author.Needs.{needs}
 use Rattle.lists.proofs.Sizes.{demands-fit}
 use Rattle.convert.proofs.Answers.{record-unsized, record-count}
-use Rattle.convert.proofs.Tests.{told-true}
+use Rattle.faults.proofs.Tests.{told-true}
 use Rattle.convert.proofs.inner.scans.record_fits.Statement.{statement}
 use Rattle.convert.proofs.inner.scans.record_fits.Tie as tie
 

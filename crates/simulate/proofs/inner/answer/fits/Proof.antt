@@ -1,6 +1,6 @@
 -- Each test decides one part of `simulateSizes`.
 use Rattle.tables.proofs.Sets.{all}
-use Rattle.simulate.proofs.Answers.{few, sizes-fail, plan-fails, record-words, record-decides}
+use Rattle.simulate.proofs.Answers.{few, sizes-fail, plan-fails, record-decides}
 use Rattle.simulate.proofs.inner.answer.fits.Statement.{statement}
 use Rattle.simulate.proofs.inner.answer.fits.Tie as tie
 
@@ -12,20 +12,20 @@ plan-length-requires c κs =
 
 record-length-requires : tie.Need-record-length-requires
 record-length-requires c κs =
-    let s = c .before .before .before in
+    let s = c .before .before in
     let n = s .before in
     let i = n .before in
     let f = few _ _ _ _ _ (i .before .sizes .ensures) (i .if1 .taken) (n .links-of .ensures) (s .steps-of .ensures) in
-    (f .0, f .1, c .record-width .ensures .1)
+    (f .0, f .1, search all)
 
 returns : tie.Need-returns
 returns c =
-    let l = c .before .before in
+    let l = c .before in
     let p = l .before in
     let s = p .before in
     let n = s .before in
     let i = n .before in
-    record-decides _ _ _ _ _ (i .before .sizes .ensures) (i .if1 .taken) _ _ (n .links-of .ensures) (s .steps-of .ensures) _ _ (p .plan-length .ensures) (l .if2 .taken) (record-words _ _ _ _ (c .record-length .ensures) (c .before .record-width .ensures .0))
+    record-decides _ _ _ _ _ (i .before .sizes .ensures) (i .if1 .taken) _ _ (n .links-of .ensures) (s .steps-of .ensures) _ _ (p .plan-length .ensures) (l .if2 .taken) (c .record-length .ensures)
 
 returns-2 : tie.Need-returns-2
 returns-2 c =
@@ -46,7 +46,6 @@ fits-spec =
     (λ c κs. search all)
     (λ c κs. search all)
     plan-length-requires
-    (λ c κs. search all)
     record-length-requires
     returns
     returns-2

@@ -2,28 +2,25 @@
 use native.Mathlib.Omega.{arith}
 use lib.ListN.{length-take, length-set}
 use Rattle.tables.proofs.Sets.{all}
-use Rattle.simulate.proofs.Runs.{states-lent, record-is-written}
+use Rattle.simulate.proofs.Runs.{record-is-written}
 use Rattle.simulate.proofs.inner.run.write_record.Statement.{statement}
 use Rattle.simulate.proofs.inner.run.write_record.Tie as tie
 
 run-all-requires : tie.Need-run-all-requires
 run-all-requires c κs =
-    let w = c .before in
-    let k = w .before .before .before .before .before in
-    ((k .pre .0, w .record-width .ensures .1), simp length-take (omega (arith, states-lent _ _ (k .args .output .now) _ (w .record-width .ensures .0) (k .pre .1))))
+    let k = c .before .before .before .before .before in
+    ((k .pre .0, search all), simp length-take (omega (arith, k .pre .1)))
 
 returns : tie.Need-returns
 returns c =
-    let w = c .before .before .before .before in
-    let k = w .before .before .before .before .before in
-    record-is-written _ _ _ _ (k .args .output .now) _ _ (w .record-width .ensures .0) (c .before .before .run-all .ensures) (k .pre .1)
+    let k = c .before .before .before .before .before .before .before .before in
+    record-is-written _ _ _ _ (k .args .output .now) _ (c .before .before .run-all .ensures) (k .pre .1)
 
 pub write-record-spec : {M : Type 1} → statement M
 write-record-spec =
     tie.close
     (tie.spec
     (λ c. search all)
-    (λ c κs. search all)
     (λ c. search all)
     (λ c. simp length-take (omega arith))
     run-all-requires

@@ -1,0 +1,22 @@
+// Whether an identifier stands at an earlier node too.
+ghost use mathlib.Core.Path.{_≡_};
+ghost use Rattle.lists.specs.Words.{nodeAt};
+ghost use Rattle.lists.specs.Refusals.{fresh};
+ghost use Rattle.lists.specs.Fits.{NodeFits};
+use crate::inner::words;
+
+// Whether no node before node i has its identifier.
+pub fn fresh(corridor: &[u32], i: usize) -> bool
+    requires { ⌜ NodeFits (now corridor) i ⌝ }
+    ensures { λ r. ⌜ r ≡ fresh (λ j. nodeAt (now (corridor .entry)) j .identifier) i ⌝ }
+{
+    let own = words::identifier_at(corridor, i);
+    let mut j = 0;
+    while j < i {
+        if words::identifier_at(corridor, j) == own {
+            return false;
+        }
+        j += 1;
+    }
+    true
+}
