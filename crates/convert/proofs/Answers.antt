@@ -26,6 +26,11 @@ use Rattle.convert.specs.Convert.{checkAnswer, convertAnswer}
 use Rattle.convert.specs.Rows.{bareRoad, fixedRefusal, stepsRefusal, stateCostAt, Ready}
 use Rattle.convert.proofs.Rows.{TraceRow, trace-row}
 
+-- a record's row of w words that begins at `at`, as a call gave it, lies within the record
+pub row-inside : (width links steps w at : ℕ) (words : List ℕ) → at + w ≤ (steps + 1) * w → w ≡ suc links * width → length words ≡ recordLength width links steps
+    → at + w ≤ length words
+row-inside width links steps w at words h q e = omega (arith, ap (λ (x : ℕ). (steps + 1) * x) q)
+
 -- ---- 13: the cost row by row
 
 -- v is the sum of a row as a call gave it, and w how many words the row has

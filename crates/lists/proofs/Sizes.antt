@@ -32,10 +32,15 @@ demands-fit corridor demands links steps e n k =
 pub steps-few : (corridor demands : List ℕ) (steps : ℕ) → sizes corridor demands ≡ true → steps ≡ stepsOf demands → steps ≤ 1440
 steps-few corridor demands steps e k = let s = sizes-iff corridor demands .0 e in omega (arith, s .steps)
 
+pub plan-length-as : (corridor demands plan : List ℕ) (links steps : ℕ) → length plan ≡ planLength (linksOf corridor) (stepsOf demands)
+    → links ≡ linksOf corridor → steps ≡ stepsOf demands → length plan ≡ planLength links steps
+plan-length-as corridor demands plan links steps e n k = e ∙ ap₂ planLength (sym n) (sym k)
+
 -- the length of a list whose rows begin after no word, and of one whose rows begin after one
 pub plan-words : (corridor demands plan : List ℕ) (links steps : ℕ) → length plan ≡ planLength (linksOf corridor) (stepsOf demands)
     → links ≡ linksOf corridor → steps ≡ stepsOf demands → length plan ≡ 0 + planLength links steps
-plan-words corridor demands plan links steps e n k = e ∙ ap₂ planLength (sym n) (sym k) ∙ sym (zero-add (planLength links steps))
+plan-words corridor demands plan links steps e n k =
+    plan-length-as corridor demands plan links steps e n k ∙ sym (zero-add (planLength links steps))
 
 pub demand-words : (corridor demands : List ℕ) (links steps : ℕ) → sizes corridor demands ≡ true → links ≡ linksOf corridor → steps ≡ stepsOf demands
     → length demands ≡ demandsLength links steps

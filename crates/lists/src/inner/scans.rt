@@ -38,7 +38,7 @@ pub fn table_length(rows: usize, width: usize) -> usize
 // Where row k of `rows` rows of `width` words starts, and that it ends within them.
 pub fn row_at(k: usize, width: usize, rows: usize) -> usize
     requires { ⌜ (k < rows) × (rows ≤ 1441) × (width ≤ 260) ⌝ }
-    ensures { λ r. ⌜ (r ≡ k * width) × (r + width ≤ rows * width) ⌝ }
+    ensures { λ r. ⌜ (r ≡ k * width) × (r + width ≤ rows * width) × (r + width ≤ 374660) ⌝ }
 {
     k * width
 }
@@ -169,13 +169,7 @@ fn node_answer(
 }
 
 // The first node that a test refuses, in row k of a list or, where the test reads no row, in the corridor.
-pub fn scan_nodes(
-    test: NodeTest,
-    k: usize,
-    corridor: &[u32],
-    links: usize,
-    row: &[u32],
-) -> Answer
+pub fn scan_nodes(test: NodeTest, k: usize, corridor: &[u32], links: usize, row: &[u32]) -> Answer
     requires { ⌜ CorridorFits (now corridor) links ⌝ }
     requires { ⌜ (k ≤ 1440) × RowFor test (now row) links ⌝ }
     ensures { λ r. ⌜ r ≡ firstNode (suc links) k (nodeFaultIn test (now (corridor .entry)) links (now (row .entry))) ⌝ }
@@ -262,7 +256,14 @@ pub fn ranges(corridor: &[u32], demands: &[u32]) -> Answer
     if is_refused(answer) {
         return answer;
     }
-    scan_rows(NodeTest::Demand, corridor, links, words::steps_of(demands), demands, 1)
+    scan_rows(
+        NodeTest::Demand,
+        corridor,
+        links,
+        words::steps_of(demands),
+        demands,
+        1,
+    )
 }
 
 // The first refusal of 6.
@@ -272,5 +273,12 @@ pub fn bounds(corridor: &[u32], demands: &[u32], plan: &[u32]) -> Answer
     ensures { λ r. ⌜ r ≡ planBounds (now (corridor .entry)) (now (demands .entry)) (now (plan .entry)) ⌝ }
 {
     let links = words::links_of(corridor);
-    scan_rows(NodeTest::Plan, corridor, links, words::steps_of(demands), plan, 0)
+    scan_rows(
+        NodeTest::Plan,
+        corridor,
+        links,
+        words::steps_of(demands),
+        plan,
+        0,
+    )
 }

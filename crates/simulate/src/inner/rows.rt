@@ -101,7 +101,10 @@ fn inflow_at(demand: &[u32], row: &[u32], width: usize, links: usize, i: usize) 
         return Units(0);
     }
     let from = i - 1;
-    road::inner::outflow(words::flows_at(row, width, from), words::split_at(demand, from))
+    road::inner::outflow(
+        words::flows_at(row, width, from),
+        words::split_at(demand, from),
+    )
 }
 
 // The next state of node i.

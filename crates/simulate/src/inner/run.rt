@@ -101,7 +101,15 @@ fn run_steps(
     while k < steps {
         let at = scans::row_at(k, wide, count);
         let end = at + wide;
-        total += step_at(corridor, demands, plan, k, state, &mut states[at..end], width);
+        total += step_at(
+            corridor,
+            demands,
+            plan,
+            k,
+            state,
+            &mut states[at..end],
+            width,
+        );
         k += 1;
     }
     let last = scans::row_at(steps, wide, count);
@@ -111,13 +119,7 @@ fn run_steps(
 }
 
 // The same from the corridor's start, with room for a state of 65 nodes.
-fn run_all(
-    corridor: &[u32],
-    demands: &[u32],
-    plan: &[u32],
-    states: &mut [u32],
-    width: usize,
-) -> u64
+fn run_all(corridor: &[u32], demands: &[u32], plan: &[u32], states: &mut [u32], width: usize) -> u64
     requires { ⌜ Sound (now corridor) (now demands) (now plan) × Width width ⌝ }
     requires { ⌜ length (now states) ≡ traceLength width (linksOf (now corridor)) (stepsOf (now demands)) ⌝ }
     ensures { λ r. ⌜ RanAll width (now (corridor .entry)) (now (demands .entry)) (now (plan .entry)) (now (states .exit)) r ⌝ }
@@ -137,7 +139,13 @@ pub fn write_record(corridor: &[u32], demands: &[u32], plan: &[u32], output: &mu
     ensures { λ _. ⌜ now (output .exit) ≡ simulated (now (corridor .entry)) (now (demands .entry)) (now (plan .entry)) ⌝ }
 {
     let end = output.len() - 2;
-    let total = run_all(corridor, demands, plan, &mut output[..end], words::RECORD_WIDTH);
+    let total = run_all(
+        corridor,
+        demands,
+        plan,
+        &mut output[..end],
+        words::RECORD_WIDTH,
+    );
     output[end] = (total % 4294967296) as u32;
     output[end + 1] = (total / 4294967296) as u32;
 }

@@ -1,23 +1,21 @@
 -- Each node has the two words of its setting.
 use Prim.Native.Nat.{_+_, _-_}
 use native.Mathlib.Omega.{arith}
-use Rattle.tables.proofs.Grid.{Placed}
 use borrow.Author.Needs.{needs}
+use Rattle.tables.proofs.Grid.{Placed}
 use Rattle.convert.specs.Rows.{settingWord}
 use Rattle.convert.proofs.Settings.{settings-begun, setting-more, settings-ended}
 use Rattle.convert.proofs.inner.plans.plan_row.Statement.{statement}
 use Rattle.convert.proofs.inner.plans.plan_row.Tie as tie
 
 abbrev Inv-loop : tie.InvT-loop
-Inv-loop corridor links demand row out₀ nodes i₀ out i = Placed 2 i (links + 1) (settingWord corridor demand row) out₀ out
+Inv-loop corridor links demand downstream row width out₀ nodes i₀ out i = Placed 2 i (links + 1) (settingWord width corridor demand (downstream .0) row) out₀ out
 
 abbrev μ-loop : tie.MeasureT-loop
-μ-loop corridor links demand row out₀ nodes i₀ out i = links + 1 - i
+μ-loop corridor links demand downstream row width out₀ nodes i₀ out i = links + 1 - i
 
-setting-at-requires : tie.Need-setting-at-requires Inv-loop μ-loop
-setting-at-requires c κs =
-    let k = c .before .before .before .before .before .before in
-    ((k .pre .0 .0, k .pre .0 .1, k .pre .0 .2), (k .pre .1 .0, (k .pre .1 .1, omega arith)))
+link-at-requires : tie.Need-link-at-requires Inv-loop μ-loop
+link-at-requires c κs = omega (arith, c .before .before .before .before .before .before .before .pre .0 .0 .corridorFits .words)
 
 pub plan-row-spec : {M : Type 1} → statement M
 plan-row-spec =
@@ -25,10 +23,10 @@ plan-row-spec =
     (tie.spec
     Inv-loop
     μ-loop
-    (λ c. search needs)
+    (λ c. omega (arith, c .before .before .before .before .pre .0 .0 .corridorFits .few))
     (λ c. search settings-begun)
-    setting-at-requires
-    (λ c κs. search needs)
+    (λ c κs. (c .before .before .before .before .before .before .pre .0, omega arith))
+    link-at-requires
     (λ c κs. search needs)
     (λ c. search needs)
     (λ c. search needs)

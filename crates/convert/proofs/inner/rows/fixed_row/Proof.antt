@@ -1,19 +1,20 @@
 -- No node before i has a fault.
 use Prim.Native.Nat.{_-_}
 use Rattle.tables.specs.Answer.{refusal}
-use Rattle.tables.proofs.First.{Passed}
 use borrow.Author.Needs.{needs}
+use Rattle.tables.proofs.First.{Passed}
 use Rattle.tables.proofs.Sets.{scans}
+use Rattle.lists.proofs.Rows.{node-among}
 use Rattle.lists.proofs.Scans.{nodes-stop, nodes-ended}
 use Rattle.convert.specs.Rows.{fixedFaultIn}
 use Rattle.convert.proofs.inner.rows.fixed_row.Statement.{statement}
 use Rattle.convert.proofs.inner.rows.fixed_row.Tie as tie
 
 abbrev Inv-loop : tie.InvT-loop
-Inv-loop corridor links steps k row nodes i₀ i = Passed i nodes (λ j. refusal (fixedFaultIn corridor links steps k row j) k j)
+Inv-loop corridor links steps k row width nodes i₀ i = Passed i nodes (λ j. refusal (fixedFaultIn width corridor links steps k row j) k j)
 
 abbrev μ-loop : tie.MeasureT-loop
-μ-loop corridor links steps k row nodes i₀ i = nodes - i
+μ-loop corridor links steps k row width nodes i₀ i = nodes - i
 
 pub fixed-row-spec : {M : Type 1} → statement M
 fixed-row-spec =
@@ -23,9 +24,8 @@ fixed-row-spec =
     μ-loop
     (λ c. search needs)
     (λ c. search scans)
+    (λ c κs. search (needs, node-among))
     (λ c κs. search needs)
-    (λ c. search needs)
-    (λ c. search needs)
     (λ c. search (scans, nodes-stop))
     (λ c. search needs)
     (λ c. search needs)

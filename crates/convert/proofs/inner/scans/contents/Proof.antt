@@ -1,6 +1,6 @@
 -- The first that refuses decides.
 use borrow.Author.Needs.{needs}
-use Rattle.lists.proofs.Scans.{or-else-stop, or-else-next}
+use Rattle.tables.proofs.Sets.{joins}
 use Rattle.convert.proofs.Answers.{ready}
 use Rattle.convert.proofs.inner.scans.contents.Statement.{statement}
 use Rattle.convert.proofs.inner.scans.contents.Tie as tie
@@ -10,8 +10,7 @@ contents-spec =
     tie.close
     (tie.spec
     (λ c κs. search needs)
-    (λ c. search needs)
-    (λ c. search or-else-stop)
-    (λ c. search needs)
-    (λ c κs. search ready)
-    (λ c. search or-else-next))
+    (λ c κs. search needs)
+    (λ c. search joins)
+    (λ c κs. search (ready, joins))
+    (λ c. search joins))

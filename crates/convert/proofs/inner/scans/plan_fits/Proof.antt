@@ -1,6 +1,5 @@
--- By the length as a product, which is small.
+-- By the length that N and K tell.
 use Prim.Native.Nat.{_≤_}
-use native.Mathlib.Omega.{arith}
 use borrow.Author.Needs.{needs}
 use Rattle.lists.proofs.Sizes.{demands-fit}
 use Rattle.convert.proofs.Answers.{plan-count}
@@ -14,7 +13,7 @@ few c =
     (q .few, q .short)
 
 returns : tie.Need-returns
-returns c = plan-count _ _ _ _ _ _ (c .before .before .links-of .ensures) (c .before .steps-of .ensures) (c .table-length .ensures)
+returns c = plan-count _ _ _ _ _ _ (c .before .before .links-of .ensures) (c .before .steps-of .ensures) (c .plan-length .ensures)
 
 pub plan-fits-spec : {M : Type 1} → statement M
 plan-fits-spec =
@@ -22,7 +21,5 @@ plan-fits-spec =
     (tie.spec
     (λ c κs. search needs)
     (λ c κs. search needs)
-    (λ c. omega (arith, few c))
-    (λ c. omega (arith, few c))
-    (λ c κs. (omega (arith, few c), omega (arith, few c)))
+    (λ c κs. few c)
     returns)

@@ -1,20 +1,14 @@
 -- The fault's number decides.
-use mathlib.Core.Path.{sym}
+use native.Mathlib.Omega.{arith}
 use borrow.Author.Needs.{needs}
-use Rattle.tables.proofs.Answers.{refusal-none, refusal-some}
 use Rattle.convert.proofs.Answers.{cost-told}
 use Rattle.convert.proofs.inner.scans.scan_cost.Statement.{statement}
 use Rattle.convert.proofs.inner.scans.scan_cost.Tie as tie
 
 returns : tie.Need-returns
 returns c =
-    let n = c .before in
-    refusal-some _ _ _ _ (cost-told _ _ _ _ _ _ (n .cost-fault .ensures) (n .before .before .before .table-length .ensures) (n .before .before .before .before .total-cost .ensures)) (c .if1 .taken)
-
-returns-2 : tie.Need-returns-2
-returns-2 c =
-    let n = c .before in
-    sym (refusal-none _ _ _ _ (cost-told _ _ _ _ _ _ (n .cost-fault .ensures) (n .before .before .before .table-length .ensures) (n .before .before .before .before .total-cost .ensures)) (c .if1 .left))
+    let k = c .before .before .before .before .before .before in
+    cost-told _ _ _ _ _ _ (k .args .words .now) _ (c .before .total-fault .ensures) (omega (arith, k .pre .3)) (c .before .before .before .before .total-cost .ensures) (c .refusal .ensures)
 
 pub scan-cost-spec : {M : Type 1} → statement M
 scan-cost-spec =
@@ -24,12 +18,9 @@ scan-cost-spec =
     (λ c. search needs)
     (λ c. search needs)
     (λ c. search needs)
-    (λ c κs. search needs)
-    (λ c. search needs)
-    (λ c. search needs)
     (λ c. search needs)
     (λ c. search needs)
     (λ c. search needs)
     (λ c κs. search needs)
-    returns
-    returns-2)
+    (λ c κs. search needs)
+    returns)

@@ -1,22 +1,15 @@
 -- No row before k has a fault.
-use Prim.Native.Nat.{suc, _-_}
-use native.Mathlib.Omega.{arith}
-use lib.ListN.{length-take, length-drop}
-use Rattle.tables.specs.First.{firstNode}
+use Prim.Native.Nat.{_-_}
 use Rattle.tables.proofs.First.{Passed}
 use borrow.Author.Needs.{needs}
 use Rattle.tables.proofs.Sets.{scans}
-use Rattle.lists.specs.Words.{traceOf}
 use Rattle.lists.proofs.Scans.{nodes-stop, nodes-ended}
-use Rattle.convert.specs.Refusals.{fixedAt}
-use Rattle.convert.specs.Rows.{bareRoad}
-use Rattle.convert.proofs.Rows.{fixed-row-told}
+use Rattle.convert.specs.Rows.{fixedRowRefusal}
 use Rattle.convert.proofs.inner.scans.scan_fixed.Statement.{statement}
 use Rattle.convert.proofs.inner.scans.scan_fixed.Tie as tie
 
 abbrev Inv-loop : tie.InvT-loop
-Inv-loop corridor links steps words width states k₀ k =
-    Passed k states (λ j. firstNode (suc links) j (fixedAt (bareRoad corridor links steps) (traceOf (bareRoad corridor links steps) words) j))
+Inv-loop corridor links steps words width states k₀ k = Passed k states (fixedRowRefusal width corridor links steps words)
 
 abbrev μ-loop : tie.MeasureT-loop
 μ-loop corridor links steps words width states k₀ k = states - k
@@ -28,20 +21,11 @@ scan-fixed-spec =
     Inv-loop
     μ-loop
     (λ c. search needs)
+    (λ c. search scans)
+    (λ c κs. search needs)
+    (λ c κs. search needs)
+    (λ c. search (scans, nodes-stop))
     (λ c. search needs)
     (λ c. search needs)
     (λ c. search scans)
-    (λ c κs. search needs)
-    (λ c. search needs)
-    (λ c. search needs)
-    (λ c. search needs)
-    (λ c. search needs)
-    (λ c. search needs)
-    (λ c κs. (search needs, (omega arith, simp (length-take, length-drop) (omega arith))))
-    (λ c. search needs)
-    (λ c. search (scans, fixed-row-told, nodes-stop))
-    (λ c. search needs)
-    (λ c. search needs)
-    (λ c. search needs)
-    (λ c. search (scans, fixed-row-told))
     (λ c. search nodes-ended))

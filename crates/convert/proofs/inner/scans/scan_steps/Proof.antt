@@ -1,21 +1,18 @@
 -- No step before k has a fault.
-use Prim.Native.Nat.{suc, _-_}
+use Prim.Native.Nat.{_-_}
 use native.Mathlib.Omega.{arith}
-use Rattle.tables.specs.First.{firstNode}
 use Rattle.tables.proofs.First.{Passed}
 use borrow.Author.Needs.{needs}
 use Rattle.tables.proofs.Sets.{scans}
-use Rattle.lists.specs.Words.{roadOf, traceOf}
-use Rattle.convert.specs.Refusals.{stepAt}
+use Rattle.convert.specs.Rows.{stepRefusal}
 use Rattle.convert.proofs.inner.scans.scan_steps.Statement.{statement}
 use Rattle.convert.proofs.inner.scans.scan_steps.Tie as tie
 
 abbrev Inv-loop : tie.InvT-loop
-Inv-loop corridor demands links steps words k₀ k =
-    Passed k steps (λ j. firstNode (suc links) j (stepAt (roadOf corridor demands) (traceOf (roadOf corridor demands) words) j))
+Inv-loop corridor demands links steps words width k₀ k = Passed k steps (stepRefusal width corridor demands links words)
 
 abbrev μ-loop : tie.MeasureT-loop
-μ-loop corridor demands links steps words k₀ k = steps - k
+μ-loop corridor demands links steps words width k₀ k = steps - k
 
 step-at-requires : tie.Need-step-at-requires Inv-loop μ-loop
 step-at-requires c κs =
@@ -31,9 +28,8 @@ scan-steps-spec =
     μ-loop
     (λ c. search scans)
     step-at-requires
-    (λ c. search needs)
+    (λ c κs. search needs)
     (λ c. search scans)
-    (λ c. search needs)
     (λ c. search needs)
     (λ c. search needs)
     (λ c. search scans)

@@ -1,29 +1,43 @@
 -- The rows of step k say what the lists say of it, and keep what is asked.
+use Prim.Native.Nat.{_+_, _≤_}
 use native.Mathlib.Omega.{arith}
-use lib.ListN.{length-take, length-drop}
+use lib.ListN.{length}
 use borrow.Author.Needs.{needs}
-use Rattle.convert.proofs.Rows.{step-row-told, step-row-kept}
+use Rattle.convert.proofs.Answers.{row-inside}
+use Rattle.convert.proofs.Rows.{step-row-told, step-row-kept, after-row-fits}
 use Rattle.convert.proofs.inner.scans.step_at.Statement.{statement}
 use Rattle.convert.proofs.inner.scans.step_at.Tie as tie
 
 step-row-requires : tie.Need-step-row-requires
 step-row-requires c κs =
-    let from = c .before .before .before .before in
-    let k = from .before .before .before .before .before in
-    let ready = k .pre .0 in (
-      (ready .corridorFits, simp (length-take, length-drop) (omega arith), simp (length-take, length-drop) (omega arith), simp (length-take, length-drop) (omega arith)),
-      (
-        step-row-kept _ _ _ _ _ ready _ _ _ (from .before .row-at .ensures .0) (from .row-at2 .ensures .0) (k .pre .1 .0) (k .pre .1 .1 .0) (k .pre .1 .1 .1),
-        omega arith,
-      ),
+    let next = c .before .before .before .before in
+    let from = next .before in
+    let w = from .before .before in
+    let k = w .before .before .before .before in
+    let ready = k .pre .0 in
+    let v = w .state-words .ensures .0 in (
+      step-row-kept _ _ _ _ _ _ ready _ _ _ _ (from .before .row-at .ensures .0) (from .row-at2 .ensures .0) v (k .pre .1 .1 .1) (k .pre .1 .0) (k .pre .1 .1 .0),
+      (after-row-fits _ _ _ _ _ _ ready _ _ _ (next .row-at3 .ensures .0) v (k .pre .1 .1 .1), omega (arith, ready .demandsFit .short)),
     )
 
 returns : tie.Need-returns
 returns c =
-    let next = c .before .before .before .before in
+    let next = c .before .before .before .before .before in
     let from = next .before in
-    let k = from .before .before .before .before .before in
-    step-row-told _ _ _ _ _ (k .pre .0) _ _ _ _ _ (from .before .row-at .ensures .0) (from .row-at2 .ensures .0) (next .row-at3 .ensures .0) (c .step-row .ensures)
+    let w = from .before .before in
+    let k = w .before .before .before .before in
+    step-row-told _ _ _ _ _ _ (k .pre .0) _ _ _ _ _ _ _ (from .before .row-at .ensures .0) (from .row-at2 .ensures .0) (next .row-at3 .ensures .0) (w .state-words .ensures .0)
+    (c .before .before .before .downstream .ensures) (c .step-row .ensures)
+
+from-inside : (c : tie.After-downstream) → c .before .before .before .row-at2 .result + c .before .before .before .before .before .state-words .result ≤ length (c .before .before .before .before .before .before .before .before .before .args .words .now)
+from-inside c =
+    let k = c .before .before .before .before .before .before .before .before .before in
+    row-inside _ _ _ _ _ (k .args .words .now) (c .before .before .before .row-at2 .ensures .1) (c .before .before .before .before .before .state-words .ensures .0) (k .pre .0 .recordFits)
+
+next-inside : (c : tie.After-downstream) → c .before .before .row-at3 .result + c .before .before .before .before .before .state-words .result ≤ length (c .before .before .before .before .before .before .before .before .before .args .words .now)
+next-inside c =
+    let k = c .before .before .before .before .before .before .before .before .before in
+    row-inside _ _ _ _ _ (k .args .words .now) (c .before .before .row-at3 .ensures .1) (c .before .before .before .before .before .state-words .ensures .0) (k .pre .0 .recordFits)
 
 pub step-at-spec : {M : Type 1} → statement M
 step-at-spec =
@@ -31,8 +45,7 @@ step-at-spec =
     (tie.spec
     (λ c. search needs)
     (λ c. search needs)
-    (λ c. search needs)
-    (λ c. search needs)
+    (λ c κs. search needs)
     (λ c κs. search needs)
     (λ c. search needs)
     (λ c. search needs)
@@ -47,13 +60,14 @@ step-at-spec =
     (λ c. search needs)
     (λ c. search needs)
     (λ c. search needs)
+    (λ c κs. search needs)
     (λ c. search needs)
     (λ c. search needs)
     (λ c. search needs)
+    (λ c. omega (arith, from-inside c))
     (λ c. search needs)
     (λ c. search needs)
     (λ c. search needs)
-    (λ c. search needs)
-    (λ c. search needs)
+    (λ c. omega (arith, next-inside (c .before)))
     step-row-requires
     returns)

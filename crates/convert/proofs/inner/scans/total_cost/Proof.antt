@@ -1,19 +1,18 @@
 -- The sum of the states before k + 1, each at most the greatest sum of a row.
 use Prim.Native.Nat.{_-_}
-use native.Mathlib.Omega.{arith}
-use lib.ListN.{length-take, length-drop}
 use Rattle.tables.proofs.Sum.{Summed}
 use borrow.Author.Needs.{needs}
 use Rattle.tables.proofs.Sets.{sums}
-use Rattle.convert.proofs.Answers.{stateCost, row-cost-told, cost-summed}
+use Rattle.convert.specs.Rows.{stateCostAt}
+use Rattle.convert.proofs.Answers.{cost-summed}
 use Rattle.convert.proofs.inner.scans.total_cost.Statement.{statement}
 use Rattle.convert.proofs.inner.scans.total_cost.Tie as tie
 
 abbrev Inv-loop : tie.InvT-loop
-Inv-loop links steps words width states total₀ k₀ total k = Summed k steps 558345748350 (stateCost links steps words) total
+Inv-loop links steps words width total₀ k₀ total k = Summed k steps 558345748350 (stateCostAt width links steps words) total
 
 abbrev μ-loop : tie.MeasureT-loop
-μ-loop links steps words width states total₀ k₀ total k = steps - k
+μ-loop links steps words width total₀ k₀ total k = steps - k
 
 pub total-cost-spec : {M : Type 1} → statement M
 total-cost-spec =
@@ -21,20 +20,10 @@ total-cost-spec =
     (tie.spec
     Inv-loop
     μ-loop
-    (λ c. search needs)
-    (λ c. search needs)
-    (λ c. search needs)
     (λ c. search sums)
-    (λ c. search needs)
     (λ c κs. search needs)
     (λ c. search needs)
     (λ c. search needs)
     (λ c. search needs)
-    (λ c. search needs)
-    (λ c. search needs)
-    (λ c κs. (simp (length-take, length-drop) (omega arith), omega arith))
-    (λ c. search needs)
-    (λ c. search needs)
-    (λ c. search needs)
-    (λ c. search (sums, row-cost-told))
+    (λ c. search sums)
     (λ c. search cost-summed))
