@@ -7,14 +7,14 @@ use lib.Dec.{eqb}
 use lib.ListN.{length}
 use Rattle.tables.specs.declared.Answer.{Answer}
 use Rattle.tables.specs.Answer.{orElse, left, sized}
-use Rattle.lists.specs.Words.{corridorLength, demandsLength, planLength, recordLength}
+use Rattle.lists.specs.Words.{recordWidth, corridorLength, demandsLength, planLength, recordLength}
 use Rattle.convert.specs.Convert.{checkAnswer, converted}
 use Rattle.payload.specs.File.{blocksFor, payloadOf, fileOf}
 use Rattle.block.specs.declared.Kind.the-variants.{Corridor, Demands, Record, Plan}
 use Rattle.block.specs.Kinds.{kindNumber}
 use Rattle.block.specs.Calls.{toldFits, fileAnswer}
 
--- ---- the words of each file, told N and K
+-- ---- the words of each file, told N and K: `recorded` is a record's file
 
 abbrev pub corridorIn : ℕ → List ℕ → List ℕ
 corridorIn n file = payloadOf (corridorLength n) file
@@ -22,36 +22,36 @@ corridorIn n file = payloadOf (corridorLength n) file
 abbrev pub demandsIn : ℕ → ℕ → List ℕ → List ℕ
 demandsIn n k file = payloadOf (demandsLength n k) file
 
-abbrev pub recordIn : ℕ → ℕ → List ℕ → List ℕ
-recordIn n k file = payloadOf (recordLength n k) file
+abbrev pub recordIn : ℕ → ℕ → ℕ → List ℕ → List ℕ
+recordIn width n k file = payloadOf (recordLength width n k) file
 
 -- ---- answers
 
 -- 14 to 18, and 1 for an own N or K that differs: each file is read whole before the next
 unfoldable pub filesAnswer : ℕ → ℕ → List ℕ → List ℕ → List ℕ → Answer
-filesAnswer n k corridor demands words =
-    orElse (fileAnswer Corridor n k corridor) (orElse (fileAnswer Demands n k demands) (fileAnswer Record n k words))
+filesAnswer n k corridor demands recorded =
+    orElse (fileAnswer Corridor n k corridor) (orElse (fileAnswer Demands n k demands) (fileAnswer Record n k recorded))
 
 -- then what the checker answers to the words that were read
 unfoldable pub readThenCheck : ℕ → ℕ → List ℕ → List ℕ → List ℕ → Answer
-readThenCheck n k corridor demands words =
-    orElse (filesAnswer n k corridor demands words) (checkAnswer (corridorIn n corridor) (demandsIn n k demands) (recordIn n k words))
+readThenCheck n k corridor demands recorded =
+    orElse (filesAnswer n k corridor demands recorded) (checkAnswer (corridorIn n corridor) (demandsIn n k demands) (recordIn recordWidth n k recorded))
 
 unfoldable pub checkFiles : ℕ → ℕ → List ℕ → List ℕ → List ℕ → Answer
-checkFiles n k corridor demands words = orElse (sized (toldFits n k)) (readThenCheck n k corridor demands words)
+checkFiles n k corridor demands recorded = orElse (sized (toldFits n k)) (readThenCheck n k corridor demands recorded)
 
 -- `room` is the length of the lent plan file
 unfoldable pub convertFiles : ℕ → ℕ → List ℕ → List ℕ → List ℕ → ℕ → Answer
-convertFiles n k corridor demands words room =
-    orElse (sized (toldFits n k && eqb room (blocksFor (planLength n k) * 512))) (readThenCheck n k corridor demands words)
+convertFiles n k corridor demands recorded room =
+    orElse (sized (toldFits n k && eqb room (blocksFor (planLength n k) * 512))) (readThenCheck n k corridor demands recorded)
 
 -- ---- the plan file
 
 unfoldable pub planFile : ℕ → ℕ → List ℕ → List ℕ → List ℕ → List ℕ
-planFile n k corridor demands words =
-    fileOf (kindNumber Plan) (converted (corridorIn n corridor) (demandsIn n k demands) (recordIn n k words))
+planFile n k corridor demands recorded =
+    fileOf (kindNumber Plan) (converted (corridorIn n corridor) (demandsIn n k demands) (recordIn recordWidth n k recorded))
 
 -- the lent file at exit
 unfoldable pub planWritten : ℕ → ℕ → List ℕ → List ℕ → List ℕ → List ℕ → List ℕ
-planWritten n k corridor demands words lent =
-    left (convertFiles n k corridor demands words (length lent)) (planFile n k corridor demands words) lent
+planWritten n k corridor demands recorded lent =
+    left (convertFiles n k corridor demands recorded (length lent)) (planFile n k corridor demands recorded) lent

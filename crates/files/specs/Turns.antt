@@ -18,20 +18,20 @@ use Rattle.files.specs.Files.{checkFiles, convertFiles, planWritten}
 
 -- the three readers in turn, into lists of the lengths that N and K tell, and then `rest` of what they read
 unfoldable pub inTurn : ℕ → ℕ → List ℕ → List ℕ → List ℕ → List ℕ → List ℕ → List ℕ → (List ℕ → List ℕ → List ℕ → Answer) → Answer
-inTurn n k corridor demands words a b c rest =
+inTurn n k corridor demands recorded a b c rest =
     orElse (readAnswer Corridor n k corridor (length a))
     (orElse (readAnswer Demands n k demands (length b))
-    (orElse (readAnswer Record n k words (length c))
-    (rest (wordsRead Corridor n k corridor a) (wordsRead Demands n k demands b) (wordsRead Record n k words c))))
+    (orElse (readAnswer Record n k recorded (length c))
+    (rest (wordsRead Corridor n k corridor a) (wordsRead Demands n k demands b) (wordsRead Record n k recorded c))))
 
-pub record Turns (n k : ℕ) (corridor demands words a b c : List ℕ) : Type 0 where
-  pub checks : checkFiles n k corridor demands words ≡ orElse (sized (toldFits n k)) (inTurn n k corridor demands words a b c checkAnswer)
+pub record Turns (n k : ℕ) (corridor demands recorded a b c : List ℕ) : Type 0 where
+  pub checks : checkFiles n k corridor demands recorded ≡ orElse (sized (toldFits n k)) (inTurn n k corridor demands recorded a b c checkAnswer)
   -- into a plan of the right length
   pub converts : (room : ℕ)
-      → convertFiles n k corridor demands words room
+      → convertFiles n k corridor demands recorded room
       ≡ orElse (sized (toldFits n k && eqb room (blocksFor (planLength n k) * 512)))
-      (inTurn n k corridor demands words a b c (λ x y z. convertAnswer x y z (planLength n k)))
+      (inTurn n k corridor demands recorded a b c (λ x y z. convertAnswer x y z (planLength n k)))
   -- the file that the writer makes of the converter's plan
-  pub writes : (lent : List ℕ) → convertFiles n k corridor demands words (length lent) ≡ Accepted
-      → planWritten n k corridor demands words lent
-      ≡ fileWritten Plan n k (converted (wordsRead Corridor n k corridor a) (wordsRead Demands n k demands b) (wordsRead Record n k words c)) lent
+  pub writes : (lent : List ℕ) → convertFiles n k corridor demands recorded (length lent) ≡ Accepted
+      → planWritten n k corridor demands recorded lent
+      ≡ fileWritten Plan n k (converted (wordsRead Corridor n k corridor a) (wordsRead Demands n k demands b) (wordsRead Record n k recorded c)) lent

@@ -5,21 +5,20 @@ ghost use Rattle.files.specs.Files.{checkFiles, convertFiles, planWritte
 use crate::inner::answers;
 use crate::inner::plans;
 use tables::Answer;
+use tables::is_refused;
+use tables::sized;
 
 pub mod inner;
 
 // Checks a proposed record, with its corridor and its demands.
-pub fn check_files(n: u32, k: u32, corridor: &[u8], demands: &[u8], words: &[u8]) -> Answer
-    ensures { λ r. ⌜ r ≡ checkFiles n k (now (corridor .entry)) (now (demands .entry)) (now (words .entry)) ⌝ }
+pub fn check_files(n: u32, k: u32, corridor: &[u8], demands: &[u8], recorded: &[u8]) -> Answer
+    ensures { λ r. ⌜ r ≡ checkFiles n k (now (corridor .entry)) (now (demands .entry)) (now (recorded .entry)) ⌝ }
 {
-    if block::inner::calls::told_fits(n, k) {
-        return answers::read_then_check(n, k, corridor, demands, words);
+    let size = sized(block::inner::calls::told_fits(n, k));
+    if is_refused(size) {
+        return size;
     }
-    Answer::Refused {
-        number: 1,
-        row: 0,
-        node: 0,
-    }
+    answers::read_then_check(n, k, corridor, demands, recorded)
 }
 
 // Checks a proposed record and writes the file of the plan that has it.
@@ -28,27 +27,20 @@ pub fn convert_files(
     k: u32,
     corridor: &[u8],
     demands: &[u8],
-    words: &[u8],
+    recorded: &[u8],
     plan: &mut [u8],
 ) -> Answer
-    ensures answered { λ r. ⌜ r ≡ convertFiles n k (now (corridor .entry)) (now (demands .entry)) (now (words .entry)) (length (now (plan .entry))) ⌝ }
-    ensures written { λ _. ⌜ now (plan .exit) ≡ planWritten n k (now (corridor .entry)) (now (demands .entry)) (now (words .entry)) (now (plan .entry)) ⌝ }
+    ensures answered { λ r. ⌜ r ≡ convertFiles n k (now (corridor .entry)) (now (demands .entry)) (now (recorded .entry)) (length (now (plan .entry))) ⌝ }
+    ensures written { λ _. ⌜ now (plan .exit) ≡ planWritten n k (now (corridor .entry)) (now (demands .entry)) (now (recorded .entry)) (now (plan .entry)) ⌝ }
 {
-    if answers::room_fits(n, k, plan.len()) {
-        let answer = answers::read_then_check(n, k, corridor, demands, words);
-        if let Answer::Refused {
-            number: _,
-            row: _,
-            node: _,
-        } = answer {
-            return answer;
-        }
-        plans::write_plan(n as usize, k as usize, corridor, demands, words, plan);
+    let size = sized(answers::room_fits(n, k, plan.len()));
+    if is_refused(size) {
+        return size;
+    }
+    let answer = answers::read_then_check(n, k, corridor, demands, recorded);
+    if is_refused(answer) {
         return answer;
     }
-    Answer::Refused {
-        number: 1,
-        row: 0,
-        node: 0,
-    }
+    plans::write_plan(n as usize, k as usize, corridor, demands, recorded, plan);
+    answer
 }

@@ -4,15 +4,12 @@ ghost use mathlib.Core.Bool.{_&&_};
 ghost use Prim.Native.Nat.{_*_};
 ghost use lib.Dec.{eqb};
 ghost use lib.ListN.{length};
-ghost use Rattle.tables.specs.Answer.{orElse};
-ghost use Rattle.lists.specs.Words.{roadOf, planLength, corridorLength};
-ghost use Rattle.lists.specs.Refusals.{ranges};
-ghost use Rattle.convert.specs.Refusals.{judged};
+ghost use Rattle.lists.specs.Words.{planLength, corridorLength};
 ghost use Rattle.payload.specs.File.{blocksFor};
 ghost use Rattle.block.specs.Kinds.{Told};
 ghost use Rattle.block.specs.Calls.{toldFits};
-ghost use Rattle.files.specs.Files.{corridorIn, demandsIn, recordIn, filesAnswer, readThenCheck};
-ghost use Rattle.files.specs.Fits.{FilesFit};
+ghost use Rattle.files.specs.Files.{filesAnswer, readThenCheck};
+ghost use Rattle.files.specs.Fits.{FilesFit, wordsAnswer};
 use crate::inner::scans;
 use block::Kind;
 use block::inner::calls;
@@ -20,6 +17,7 @@ use block::inner::kinds;
 use payload::inner::place;
 use payload::inner::reading;
 use tables::Answer;
+use tables::is_refused;
 
 // Whether N and K are good and `room` bytes are a plan file's.
 pub fn room_fits(n: u32, k: u32, room: usize) -> bool
@@ -33,27 +31,19 @@ pub fn room_fits(n: u32, k: u32, room: usize) -> bool
 }
 
 // The three files in turn.
-fn files_answer(n: u32, k: u32, corridor: &[u8], demands: &[u8], words: &[u8]) -> Answer
+fn files_answer(n: u32, k: u32, corridor: &[u8], demands: &[u8], recorded: &[u8]) -> Answer
     requires { ⌜ Told n k ⌝ }
-    ensures { λ r. ⌜ r ≡ filesAnswer n k (now (corridor .entry)) (now (demands .entry)) (now (words .entry)) ⌝ }
+    ensures { λ r. ⌜ r ≡ filesAnswer n k (now (corridor .entry)) (now (demands .entry)) (now (recorded .entry)) ⌝ }
 {
     let first = calls::file_answer(Kind::Corridor, n, k, corridor);
-    if let Answer::Refused {
-        number: _,
-        row: _,
-        node: _,
-    } = first {
+    if is_refused(first) {
         return first;
     }
     let second = calls::file_answer(Kind::Demands, n, k, demands);
-    if let Answer::Refused {
-        number: _,
-        row: _,
-        node: _,
-    } = second {
+    if is_refused(second) {
         return second;
     }
-    calls::file_answer(Kind::Record, n, k, words)
+    calls::file_answer(Kind::Record, n, k, recorded)
 }
 
 // The words in the files, with room for the corridor's.
@@ -63,40 +53,32 @@ fn contents(
     corridor: &[u8],
     list: &mut [u32],
     demands: &[u8],
-    words: &[u8],
+    recorded: &[u8],
 ) -> Answer
-    requires { ⌜ FilesFit links steps (now corridor) (now demands) (now words) ⌝ }
+    requires { ⌜ FilesFit links steps (now corridor) (now demands) (now recorded) ⌝ }
     requires { ⌜ length (now list) ≡ corridorLength links ⌝ }
-    ensures { λ r. ⌜ r ≡ orElse (ranges (roadOf (corridorIn links (now (corridor .entry))) (demandsIn links steps (now (demands .entry))))) (judged (roadOf (corridorIn links (now (corridor .entry))) (demandsIn links steps (now (demands .entry)))) (recordIn links steps (now (words .entry)))) ⌝ }
+    ensures { λ r. ⌜ r ≡ wordsAnswer links steps (now (corridor .entry)) (now (demands .entry)) (now (recorded .entry)) ⌝ }
 {
     place::unpack(corridor, 0, list);
     let answer = scans::ranges(list, links, steps, demands);
-    if let Answer::Refused {
-        number: _,
-        row: _,
-        node: _,
-    } = answer {
+    if is_refused(answer) {
         return answer;
     }
-    scans::judged(list, demands, links, steps, words)
+    scans::judged(list, demands, links, steps, recorded)
 }
 
 // All that the checker refuses where N and K are good.
-pub fn read_then_check(n: u32, k: u32, corridor: &[u8], demands: &[u8], words: &[u8]) -> Answer
+pub fn read_then_check(n: u32, k: u32, corridor: &[u8], demands: &[u8], recorded: &[u8]) -> Answer
     requires { ⌜ Told n k ⌝ }
-    ensures { λ r. ⌜ r ≡ readThenCheck n k (now (corridor .entry)) (now (demands .entry)) (now (words .entry)) ⌝ }
+    ensures { λ r. ⌜ r ≡ readThenCheck n k (now (corridor .entry)) (now (demands .entry)) (now (recorded .entry)) ⌝ }
 {
-    let answer = files_answer(n, k, corridor, demands, words);
-    if let Answer::Refused {
-        number: _,
-        row: _,
-        node: _,
-    } = answer {
+    let answer = files_answer(n, k, corridor, demands, recorded);
+    if is_refused(answer) {
         return answer;
     }
     let links = n as usize;
     let count = 1 + (links + 1) * 9;
     let mut room = [0u32; 586];
     let list = &mut room[..count];
-    contents(links, k as usize, corridor, list, demands, words)
+    contents(links, k as usize, corridor, list, demands, recorded)
 }

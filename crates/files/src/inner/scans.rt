@@ -1,37 +1,37 @@
 // The first refusal of the words in three files that were read: 2 to 5, 7 over all states, then 8 to 12 step by step, then 13.
 ghost use mathlib.Core.Path.{_≡_};
 ghost use mathlib.Core.List.{[]};
-ghost use Prim.Native.Nat.{suc, _+_, _≤_, _<_};
+ghost use Prim.Native.Nat.{_≤_};
 ghost use Rattle.tables.specs.declared.Answer.the-variants.{Accepted};
 ghost use Rattle.tables.specs.Answer.{refusal};
-ghost use Rattle.tables.specs.First.{firstPlace};
 ghost use Rattle.road.specs.Run.{cost};
-ghost use Rattle.lists.specs.Words.{roadOf, traceOf, demandsLength, recordLength};
+ghost use Rattle.lists.specs.Words.{roadOf, recordWidth, traceOf, demandsLength, recordLength};
 ghost use Rattle.lists.specs.Fits.{CorridorFits, DemandsFit};
 ghost use Rattle.lists.specs.Refusals.{ranges};
-ghost use Rattle.lists.specs.Scans.{demandFaultAt};
+ghost use Rattle.lists.specs.Scans.{demandsRefusal};
 ghost use Rattle.convert.specs.Refusals.{costFault, judged};
-ghost use Rattle.convert.specs.Rows.{bareRoad, fixedRefusal, stepsRefusal, Ready};
+ghost use Rattle.convert.specs.Rows.{bareRoad, fixedRefusal, stepsRefusal};
 ghost use Rattle.files.specs.Files.{demandsIn, recordIn};
-ghost use Rattle.files.specs.Fits.{Holds};
+ghost use Rattle.files.specs.Fits.{Holds, FilesReady};
 use crate::inner::rows;
-use convert::inner::faults;
+use faults::inner::records;
+use lists::inner::scans;
+use lists::inner::words;
 use payload::inner::place;
 use tables::Answer;
+use tables::is_refused;
+use tables::refusal;
 
 // The first step and node with refusal 5.
-fn scan_demands(links: usize, steps: usize, demands: &[u8]) -> Answer
-    requires { ⌜ (links ≤ 64) × (steps ≤ 1440) × Holds (demandsLength links steps) (now demands) ⌝ }
-    ensures { λ r. ⌜ r ≡ firstPlace steps (suc links) (demandFaultAt (demandsIn links steps (now (demands .entry))) links) ⌝ }
+fn scan_demands(corridor: &[u32], links: usize, steps: usize, demands: &[u8]) -> Answer
+    requires { ⌜ CorridorFits (now corridor) links ⌝ }
+    requires { ⌜ (steps ≤ 1440) × Holds (demandsLength links steps) (now demands) ⌝ }
+    ensures { λ r. ⌜ r ≡ demandsRefusal (now (corridor .entry)) links steps (demandsIn links steps (now (demands .entry))) ⌝ }
 {
     let mut k: usize = 0;
     while k < steps {
-        let answer = rows::demand_at(links, steps, demands, k);
-        if let Answer::Refused {
-            number: _,
-            row: _,
-            node: _,
-        } = answer {
+        let answer = rows::demand_at(corridor, links, steps, demands, k);
+        if is_refused(answer) {
             return answer;
         }
         k += 1;
@@ -46,32 +46,24 @@ pub fn ranges(corridor: &[u32], links: usize, steps: usize, demands: &[u8]) -> A
     requires { ⌜ Holds (demandsLength links steps) (now demands) ⌝ }
     ensures { λ r. ⌜ r ≡ ranges (roadOf (now (corridor .entry)) (demandsIn links steps (now (demands .entry)))) ⌝ }
 {
-    let answer = lists::inner::scans::scan_corridor(corridor, links);
-    if let Answer::Refused {
-        number: _,
-        row: _,
-        node: _,
-    } = answer {
+    let answer = scans::scan_corridor(corridor, links);
+    if is_refused(answer) {
         return answer;
     }
-    scan_demands(links, steps, demands)
+    scan_demands(corridor, links, steps, demands)
 }
 
 // The first state and node with refusal 7.
-fn scan_fixed(corridor: &[u32], links: usize, steps: usize, words: &[u8]) -> Answer
+fn scan_fixed(corridor: &[u32], links: usize, steps: usize, recorded: &[u8]) -> Answer
     requires { ⌜ CorridorFits (now corridor) links ⌝ }
-    requires { ⌜ (steps ≤ 1440) × Holds (recordLength links steps) (now words) ⌝ }
-    ensures { λ r. ⌜ r ≡ fixedRefusal (now (corridor .entry)) links steps (recordIn links steps (now (words .entry))) ⌝ }
+    requires { ⌜ (steps ≤ 1440) × Holds (recordLength recordWidth links steps) (now recorded) ⌝ }
+    ensures { λ r. ⌜ r ≡ fixedRefusal recordWidth (now (corridor .entry)) links steps (recordIn recordWidth links steps (now (recorded .entry))) ⌝ }
 {
     let states = steps + 1;
     let mut k: usize = 0;
     while k < states {
-        let answer = rows::fixed_at(corridor, links, steps, words, k);
-        if let Answer::Refused {
-            number: _,
-            row: _,
-            node: _,
-        } = answer {
+        let answer = rows::fixed_at(corridor, links, steps, recorded, k);
+        if is_refused(answer) {
             return answer;
         }
         k += 1;
@@ -80,20 +72,21 @@ fn scan_fixed(corridor: &[u32], links: usize, steps: usize, words: &[u8]) -> Ans
 }
 
 // The first step and node with one of refusals 8 to 12.
-fn scan_steps(corridor: &[u32], demands: &[u8], links: usize, steps: usize, words: &[u8]) -> Answer
-    requires { ⌜ Ready (now corridor) (demandsIn links steps (now demands)) (recordIn links steps (now words)) links steps ⌝ }
-    requires { ⌜ Holds (demandsLength links steps) (now demands) × Holds (recordLength links steps) (now words) ⌝ }
-    requires { ⌜ fixedRefusal (now corridor) links steps (recordIn links steps (now words)) ≡ Accepted ⌝ }
-    ensures { λ r. ⌜ r ≡ stepsRefusal (now (corridor .entry)) (demandsIn links steps (now (demands .entry))) links (recordIn links steps (now (words .entry))) steps ⌝ }
+fn scan_steps(
+    corridor: &[u32],
+    demands: &[u8],
+    links: usize,
+    steps: usize,
+    recorded: &[u8],
+) -> Answer
+    requires { ⌜ FilesReady links steps (now corridor) (now demands) (now recorded) ⌝ }
+    requires { ⌜ fixedRefusal recordWidth (now corridor) links steps (recordIn recordWidth links steps (now recorded)) ≡ Accepted ⌝ }
+    ensures { λ r. ⌜ r ≡ stepsRefusal recordWidth (now (corridor .entry)) (demandsIn links steps (now (demands .entry))) links (recordIn recordWidth links steps (now (recorded .entry))) steps ⌝ }
 {
     let mut k: usize = 0;
     while k < steps {
-        let answer = rows::step_at(corridor, demands, links, steps, words, k);
-        if let Answer::Refused {
-            number: _,
-            row: _,
-            node: _,
-        } = answer {
+        let answer = rows::step_at(corridor, demands, links, steps, recorded, k);
+        if is_refused(answer) {
             return answer;
         }
         k += 1;
@@ -102,60 +95,50 @@ fn scan_steps(corridor: &[u32], demands: &[u8], links: usize, steps: usize, word
 }
 
 // The cost of states 1..K.
-fn total_cost(links: usize, steps: usize, words: &[u8]) -> u64
-    requires { ⌜ (links ≤ 64) × (steps ≤ 1440) × Holds (recordLength links steps) (now words) ⌝ }
-    ensures { λ r. ⌜ r ≡ cost (bareRoad [] links steps) (traceOf (bareRoad [] links steps) (recordIn links steps (now (words .entry)))) ⌝ }
+fn total_cost(links: usize, steps: usize, recorded: &[u8]) -> u64
+    requires { ⌜ (links ≤ 64) × (steps ≤ 1440) × Holds (recordLength recordWidth links steps) (now recorded) ⌝ }
+    ensures { λ r. ⌜ r ≡ cost (bareRoad [] links steps) (traceOf recordWidth (bareRoad [] links steps) (recordIn recordWidth links steps (now (recorded .entry)))) ⌝ }
 {
     let mut total: u64 = 0;
     let mut k: usize = 0;
     while k < steps {
-        total += rows::cost_at(links, steps, words, k);
+        total += rows::cost_at(links, steps, recorded, k);
         k += 1;
     }
     total
 }
 
 // Refusal 13.
-fn scan_cost(links: usize, steps: usize, words: &[u8]) -> Answer
-    requires { ⌜ (links ≤ 64) × (steps ≤ 1440) × Holds (recordLength links steps) (now words) ⌝ }
-    ensures { λ r. ⌜ r ≡ refusal (costFault (bareRoad [] links steps) (recordIn links steps (now (words .entry)))) 0 0 ⌝ }
+fn scan_cost(links: usize, steps: usize, recorded: &[u8]) -> Answer
+    requires { ⌜ (links ≤ 64) × (steps ≤ 1440) × Holds (recordLength recordWidth links steps) (now recorded) ⌝ }
+    ensures { λ r. ⌜ r ≡ refusal (costFault recordWidth (bareRoad [] links steps) (recordIn recordWidth links steps (now (recorded .entry)))) 0 0 ⌝ }
 {
-    let total = total_cost(links, steps, words);
-    let at = lists::inner::scans::table_length(steps + 1, (links + 1) * 4);
-    let low = place::word_of(words, at);
-    let high = place::word_of(words, at + 1);
-    let number = faults::cost_fault(total, low, high);
-    if number != 0 {
-        return Answer::Refused {
-            number,
-            row: 0,
-            node: 0,
-        };
-    }
-    Answer::Accepted
+    let total = total_cost(links, steps, recorded);
+    let wide = scans::state_words(links, words::RECORD_WIDTH);
+    let at = scans::table_length(steps + 1, wide);
+    let low = place::word_of(recorded, at);
+    let high = place::word_of(recorded, at + 1);
+    refusal(records::total_fault(total, low, high), 0, 0)
 }
 
 // The first refusal of 7 to 13.
-pub fn judged(corridor: &[u32], demands: &[u8], links: usize, steps: usize, words: &[u8]) -> Answer
-    requires { ⌜ Ready (now corridor) (demandsIn links steps (now demands)) (recordIn links steps (now words)) links steps ⌝ }
-    requires { ⌜ Holds (demandsLength links steps) (now demands) × Holds (recordLength links steps) (now words) ⌝ }
-    ensures { λ r. ⌜ r ≡ judged (roadOf (now (corridor .entry)) (demandsIn links steps (now (demands .entry)))) (recordIn links steps (now (words .entry))) ⌝ }
+pub fn judged(
+    corridor: &[u32],
+    demands: &[u8],
+    links: usize,
+    steps: usize,
+    recorded: &[u8],
+) -> Answer
+    requires { ⌜ FilesReady links steps (now corridor) (now demands) (now recorded) ⌝ }
+    ensures { λ r. ⌜ r ≡ judged recordWidth (roadOf (now (corridor .entry)) (demandsIn links steps (now (demands .entry)))) (recordIn recordWidth links steps (now (recorded .entry))) ⌝ }
 {
-    let fixed = scan_fixed(corridor, links, steps, words);
-    if let Answer::Refused {
-        number: _,
-        row: _,
-        node: _,
-    } = fixed {
+    let fixed = scan_fixed(corridor, links, steps, recorded);
+    if is_refused(fixed) {
         return fixed;
     }
-    let step = scan_steps(corridor, demands, links, steps, words);
-    if let Answer::Refused {
-        number: _,
-        row: _,
-        node: _,
-    } = step {
+    let step = scan_steps(corridor, demands, links, steps, recorded);
+    if is_refused(step) {
         return step;
     }
-    scan_cost(links, steps, words)
+    scan_cost(links, steps, recorded)
 }

@@ -1,14 +1,15 @@
 // The rows of one step, unpacked out of the files into short lists.
 ghost use mathlib.Core.Path.{_≡_};
-ghost use Prim.Native.Nat.{_+_, _*_, _≤_, _<_};
+ghost use Prim.Native.Nat.{suc, _+_, _*_, _≤_, _<_};
 ghost use lib.ListN.{length};
-ghost use Rattle.lists.specs.Words.{demandsLength, recordLength};
+ghost use Rattle.lists.specs.Words.{recordWidth, demandsLength, recordLength};
 ghost use Rattle.files.specs.Fits.{Holds, demandRowIn, stateRowIn};
 use lists::inner::scans;
+use lists::inner::words;
 use payload::inner::place;
 
 // The demands of step k.
-pub fn demand_words(demands: &[u8], links: usize, steps: usize, k: usize, row: &mut [u32])
+pub fn demand_row(demands: &[u8], links: usize, steps: usize, k: usize, row: &mut [u32])
     requires { ⌜ (links ≤ 64) × (steps ≤ 1440) × (k < steps) × Holds (demandsLength links steps) (now demands) ⌝ }
     requires { ⌜ length (now row) ≡ (links + 1) * 2 ⌝ }
     ensures { λ _. ⌜ now (row .exit) ≡ demandRowIn links (now (demands .entry)) k ⌝ }
@@ -18,11 +19,31 @@ pub fn demand_words(demands: &[u8], links: usize, steps: usize, k: usize, row: &
 }
 
 // State k of a record, and the flows of step k.
-pub fn state_words(words: &[u8], links: usize, steps: usize, k: usize, row: &mut [u32])
-    requires { ⌜ (links ≤ 64) × (steps ≤ 1440) × (k ≤ steps) × Holds (recordLength links steps) (now words) ⌝ }
-    requires { ⌜ length (now row) ≡ (links + 1) * 4 ⌝ }
-    ensures { λ _. ⌜ now (row .exit) ≡ stateRowIn links (now (words .entry)) k ⌝ }
+pub fn state_row(recorded: &[u8], links: usize, steps: usize, k: usize, row: &mut [u32])
+    requires { ⌜ (links ≤ 64) × (steps ≤ 1440) × (k ≤ steps) × Holds (recordLength recordWidth links steps) (now recorded) ⌝ }
+    requires { ⌜ length (now row) ≡ suc links * recordWidth ⌝ }
+    ensures { λ _. ⌜ now (row .exit) ≡ stateRowIn recordWidth links (now (recorded .entry)) k ⌝ }
 {
-    let at = scans::row_at(k, (links + 1) * 4, steps + 1);
-    place::unpack(words, at, row);
+    let wide = scans::state_words(links, words::RECORD_WIDTH);
+    let at = scans::row_at(k, wide, steps + 1);
+    place::unpack(recorded, at, row);
+}
+
+// Both of step k.
+pub fn step_rows(
+    demands: &[u8],
+    recorded: &[u8],
+    links: usize,
+    steps: usize,
+    k: usize,
+    demand: &mut [u32],
+    row: &mut [u32],
+)
+    requires { ⌜ (links ≤ 64) × (steps ≤ 1440) × (k < steps) ⌝ }
+    requires { ⌜ Holds (demandsLength links steps) (now demands) × Holds (recordLength recordWidth links steps) (now recorded) ⌝ }
+    requires { ⌜ (length (now demand) ≡ (links + 1) * 2) × (length (now row) ≡ suc links * recordWidth) ⌝ }
+    ensures { λ _. ⌜ (now (demand .exit) ≡ demandRowIn links (now (demands .entry)) k) × (now (row .exit) ≡ stateRowIn recordWidth links (now (recorded .entry)) k) ⌝ }
+{
+    demand_row(demands, links, steps, k, demand);
+    state_row(recorded, links, steps, k, row);
 }
