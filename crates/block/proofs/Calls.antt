@@ -140,9 +140,9 @@ read-kept kind n k file room =
     )
 
 module _ (kind : Kind) (n k : ℕ) (file lent : List ℕ) (a : Answer) (e : a ≡ readAnswer kind n k file (length lent)) where
-  pub read-left : (number row node : ℕ) → a ≡ Refused number row node → lent ≡ wordsRead kind n k file lent
+  pub read-left : Refuses a → lent ≡ wordsRead kind n k file lent
   unfolding wordsRead
-  read-left number row node h = left-refused a _ number row node _ lent e h
+  read-left h = left-refused a _ _ lent e h
 
   module _ (h : a ≡ Accepted) where
     pub read-room : blocksFor (0 + length lent) * 512 ≤ length file
@@ -207,9 +207,9 @@ write-kept kind n k words room =
     )
 
 module _ (kind : Kind) (n k : ℕ) (words lent : List ℕ) (a : Answer) (e : a ≡ writeAnswer kind n k words (length lent)) where
-  pub write-left : (number row node : ℕ) → a ≡ Refused number row node → lent ≡ fileWritten kind n k words lent
+  pub write-left : Refuses a → lent ≡ fileWritten kind n k words lent
   unfolding fileWritten
-  write-left number row node h = left-refused a _ number row node _ lent e h
+  write-left h = left-refused a _ _ lent e h
 
   module _ (h : a ≡ Accepted) where
     write-room : length lent ≡ blocksFor (length words) * 512

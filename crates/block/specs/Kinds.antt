@@ -3,7 +3,7 @@
 use mathlib.Core.Bool.{Bool, true}
 use Prim.Native.Nat.{ℕ, _≤_}
 use lib.Dec.{eqb}
-use Rattle.lists.specs.Words.{corridorLength, demandsLength, planLength, recordLength}
+use Rattle.lists.specs.Words.{corridorLength, demandsLength, planLength, recordWidth, recordLength}
 use Rattle.block.specs.declared.Kind.{Kind}
 use Rattle.block.specs.declared.Kind.the-variants.{Corridor, Demands, Record, Plan}
 
@@ -25,7 +25,7 @@ kindNumber Plan = 4
 unfoldable pub listLength : Kind → ℕ → ℕ → ℕ
 listLength Corridor n k = corridorLength n
 listLength Demands n k = demandsLength n k
-listLength Record n k = recordLength n k
+listLength Record n k = recordLength recordWidth n k
 listLength Plan n k = planLength n k
 
 -- whether a list's first word is as told: a corridor's is its own N, that of demands their own K

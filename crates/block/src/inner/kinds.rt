@@ -3,6 +3,7 @@ ghost use mathlib.Core.Path.{_≡_};
 ghost use Prim.Native.Nat.{_*_, _≤_};
 ghost use Rattle.block.specs.Kinds.{Told, kindNumber, listLength, ownAgrees};
 use crate::Kind;
+use lists::inner::words;
 
 // Word 0 of each block.
 pub fn number_of(kind: Kind) -> u32
@@ -34,7 +35,7 @@ pub fn length_of(kind: Kind, n: u32, k: u32) -> usize
     match kind {
         Kind::Corridor => 1 + nodes * 9,
         Kind::Demands => 1 + row_words(steps, nodes, 2),
-        Kind::Record => row_words(steps + 1, nodes, 4) + 2,
+        Kind::Record => row_words(steps + 1, nodes, words::RECORD_WIDTH) + 2,
         Kind::Plan => row_words(steps, nodes, 2),
     }
 }

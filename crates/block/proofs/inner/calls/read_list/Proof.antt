@@ -1,11 +1,12 @@
 -- An accepted file has the length to unpack.
 use borrow.Author.Needs.{needs}
+use Rattle.tables.proofs.Answers.{refuses-is}
 use Rattle.block.proofs.Calls.{read-left, read-room, read-words}
 use Rattle.block.proofs.inner.calls.read_list.Statement.{statement}
 use Rattle.block.proofs.inner.calls.read_list.Tie as tie
 
 returns : tie.Need-returns
-returns c = search (needs, read-left)
+returns c = search (needs, read-left, refuses-is)
 
 unpack-requires : tie.Need-unpack-requires
 unpack-requires c κs = search read-room

@@ -1,11 +1,12 @@
 -- An accepted list has the length to put and to seal.
 use borrow.Author.Needs.{needs}
+use Rattle.tables.proofs.Answers.{refuses-is}
 use Rattle.block.proofs.Calls.{write-left, put-fits, put-room, write-words, write-file}
 use Rattle.block.proofs.inner.calls.write_list.Statement.{statement}
 use Rattle.block.proofs.inner.calls.write_list.Tie as tie
 
 returns : tie.Need-returns
-returns c = search (needs, write-left)
+returns c = search (needs, write-left, refuses-is)
 
 put-requires : tie.Need-put-requires
 put-requires c κs = search put-fits
