@@ -7,13 +7,13 @@ use borrow.Author.Tests.{eqb-true, eq-eqb}
 use lib.Dec.{eqb}
 use lib.ListN.{length}
 use Rattle.tables.specs.declared.Answer.{Answer}
-use Rattle.tables.specs.declared.Answer.the-variants.{Accepted, Refused}
-use Rattle.tables.specs.Answer.{orElse, left, sized}
-use Rattle.tables.proofs.Answers.{orElse-accepts, left-refused, left-accepted}
+use Rattle.tables.specs.declared.Answer.the-variants.{Accepted}
+use Rattle.tables.specs.Answer.{sized}
+use Rattle.tables.proofs.Answers.{Refuses, orElse-accepts, or-else-stop, or-else-next, left-refused, left-accepted}
 use Rattle.tables.proofs.Tests.{and-iff}
-use Rattle.lists.specs.Words.{roadOf, planLength}
+use Rattle.lists.specs.Words.{roadOf, recordWidth, planLength}
 use Rattle.lists.specs.Refusals.{ranges}
-use Rattle.lists.proofs.Scans.{or-else-stop, or-else-next}
+use Rattle.lists.proofs.Limits.{sized-iff}
 use Rattle.convert.specs.Refusals.{judged}
 use Rattle.convert.specs.Convert.{checkAnswer}
 use Rattle.convert.proofs.Answers.{check-rest, recordTest}
@@ -23,84 +23,86 @@ use Rattle.block.specs.Kinds.{Told, listLength, ownAgrees}
 use Rattle.block.specs.Calls.{toldFits, fileAnswer}
 use Rattle.block.proofs.Calls.{told-is, file-kept, file-bytes}
 use Rattle.files.specs.Files.{corridorIn, demandsIn, recordIn, filesAnswer, readThenCheck, checkFiles, convertFiles, planFile, planWritten}
-use Rattle.files.specs.Fits.{FilesFit, Accepts}
+use Rattle.files.specs.Fits.{FilesFit, Accepts, wordsAnswer}
 use Rattle.files.proofs.Contents.{read-sizes, read-length}
 
 -- ---- the three files in turn: a, b and c are their answers as calls gave them
 
-module _ (n k : ℕ) (corridor demands words : List ℕ) (a : Answer) (e : a ≡ fileAnswer Corridor n k corridor) where
-  pub files-first : (number row node : ℕ) → a ≡ Refused number row node → a ≡ filesAnswer n k corridor demands words
+module _ (n k : ℕ) (corridor demands recorded : List ℕ) (a : Answer) (e : a ≡ fileAnswer Corridor n k corridor) where
+  pub files-first : Refuses a → a ≡ filesAnswer n k corridor demands recorded
   unfolding filesAnswer
-  files-first number row node h = or-else-stop a _ _ number row node e h
+  files-first h = or-else-stop a _ _ e h
 
   module _ (h : a ≡ Accepted) (b : Answer) (f : b ≡ fileAnswer Demands n k demands) where
-    pub files-second : (number row node : ℕ) → b ≡ Refused number row node → b ≡ filesAnswer n k corridor demands words
+    pub files-second : Refuses b → b ≡ filesAnswer n k corridor demands recorded
     unfolding filesAnswer
-    files-second number row node g = or-else-next a b _ _ e h (or-else-stop b _ _ number row node f g)
+    files-second g = or-else-next a b _ _ e h (or-else-stop b _ _ f g)
 
-    pub files-third : b ≡ Accepted → (c : Answer) → c ≡ fileAnswer Record n k words → c ≡ filesAnswer n k corridor demands words
+    pub files-third : b ≡ Accepted → (c : Answer) → c ≡ fileAnswer Record n k recorded → c ≡ filesAnswer n k corridor demands recorded
     unfolding filesAnswer
     files-third g c q = or-else-next a c _ _ e h (or-else-next b c _ _ f g q)
 
 -- ---- what files that were read keep
 
-pub files-fit : (n k : ℕ) (corridor demands words : List ℕ) (a : Answer) → Told n k → a ≡ filesAnswer n k corridor demands words → a ≡ Accepted
-    → FilesFit n k corridor demands words
+pub files-fit : (n k : ℕ) (corridor demands recorded : List ℕ) (a : Answer) → Told n k → a ≡ filesAnswer n k corridor demands recorded → a ≡ Accepted
+    → FilesFit n k corridor demands recorded
 unfolding filesAnswer ownAgrees listLength
-files-fit n k corridor demands words a told e h =
+files-fit n k corridor demands recorded a told e h =
     let r = orElse-accepts (fileAnswer Corridor n k corridor) _ .0 (sym e ∙ h) in
-    let s = orElse-accepts (fileAnswer Demands n k demands) (fileAnswer Record n k words) .0 (r .1) in
+    let s = orElse-accepts (fileAnswer Demands n k demands) (fileAnswer Record n k recorded) .0 (r .1) in
     record {
       told = told;
       corridorHolds = file-bytes Corridor n k corridor _ refl (r .0);
       demandsHold = file-bytes Demands n k demands _ refl (s .0);
-      recordHolds = file-bytes Record n k words _ refl (s .1);
+      recordHolds = file-bytes Record n k recorded _ refl (s .1);
       ownLinks = eqb-true (payloadWord corridor 0) n (file-kept Corridor n k corridor .0 (r .0) .own);
       ownSteps = eqb-true (payloadWord demands 0) k (file-kept Demands n k demands .0 (s .0) .own);
     }
 
--- ---- then the words in them: a is the answer of the readers, b that of the checks
+-- ---- then the recorded in them: a is the answer of the readers, b that of the checks
 
-module _ (n k : ℕ) (corridor demands words : List ℕ) (a : Answer) (e : a ≡ filesAnswer n k corridor demands words) where
-  pub read-stop : (number row node : ℕ) → a ≡ Refused number row node → a ≡ readThenCheck n k corridor demands words
+module _ (n k : ℕ) (corridor demands recorded : List ℕ) (a : Answer) (e : a ≡ filesAnswer n k corridor demands recorded) where
+  pub read-stop : Refuses a → a ≡ readThenCheck n k corridor demands recorded
   unfolding readThenCheck
-  read-stop number row node h = or-else-stop a _ _ number row node e h
+  read-stop h = or-else-stop a _ _ e h
 
   pub read-next : a ≡ Accepted → Told n k → (b : Answer)
-      → b ≡ orElse (ranges (roadOf (corridorIn n corridor) (demandsIn n k demands))) (judged (roadOf (corridorIn n corridor) (demandsIn n k demands)) (recordIn n k words))
-      → b ≡ readThenCheck n k corridor demands words
+      → b ≡ wordsAnswer n k corridor demands recorded → b ≡ readThenCheck n k corridor demands recorded
   unfolding readThenCheck
   read-next h told b q =
-      let fit = files-fit n k corridor demands words a told e h in
-      or-else-next a b _ _ e h (check-rest (corridorIn n corridor) (demandsIn n k demands) (recordIn n k words) true b (tests fit) refl q)
+      let fit = files-fit n k corridor demands recorded a told e h in
+      or-else-next a b _ _ e h (check-rest (corridorIn n corridor) (demandsIn n k demands) (recordIn recordWidth n k recorded) true (tests fit) (sized true) refl b refl q)
     where
-      tests : FilesFit n k corridor demands words → true ≡ recordTest (corridorIn n corridor) (demandsIn n k demands) (length (recordIn n k words))
+      tests : FilesFit n k corridor demands recorded → true ≡ recordTest (corridorIn n corridor) (demandsIn n k demands) (length (recordIn recordWidth n k recorded))
       tests fit =
           sym
           (and-iff _ _ .1 (
-            read-sizes n k corridor demands words fit,
-            eq-eqb _ _ (read-length n k corridor demands words fit),
+            read-sizes n k corridor demands recorded fit,
+            eq-eqb _ _ (read-length n k corridor demands recorded fit),
           ))
 
-pub accepts : (n k : ℕ) (corridor demands words : List ℕ) (a : Answer) → Told n k → a ≡ readThenCheck n k corridor demands words → a ≡ Accepted
-    → FilesFit n k corridor demands words × Accepts n k corridor demands words
+pub accepts : (n k : ℕ) (corridor demands recorded : List ℕ) (a : Answer) → Told n k → a ≡ readThenCheck n k corridor demands recorded → a ≡ Accepted
+    → FilesFit n k corridor demands recorded × Accepts n k corridor demands recorded
 unfolding readThenCheck checkAnswer
-accepts n k corridor demands words a told e h =
-    let r = orElse-accepts (filesAnswer n k corridor demands words) _ .0 (sym e ∙ h) in
-    let s = orElse-accepts (ranges (roadOf (corridorIn n corridor) (demandsIn n k demands))) (judged (roadOf (corridorIn n corridor) (demandsIn n k demands)) (recordIn n k words)) .0
-    (orElse-accepts (sized (recordTest (corridorIn n corridor) (demandsIn n k demands) (length (recordIn n k words)))) _ .0 (r .1) .1) in
-    (files-fit n k corridor demands words _ told refl (r .0), record { ranged = s .0; judges = s .1 })
+accepts n k corridor demands recorded a told e h =
+    let r = orElse-accepts (filesAnswer n k corridor demands recorded) _ .0 (sym e ∙ h) in
+    let s = orElse-accepts (ranges (roadOf (corridorIn n corridor) (demandsIn n k demands))) (judged recordWidth (roadOf (corridorIn n corridor) (demandsIn n k demands)) (recordIn recordWidth n k recorded)) .0
+    (orElse-accepts (sized (recordTest (corridorIn n corridor) (demandsIn n k demands) (length (recordIn recordWidth n k recorded)))) _ .0 (r .1) .1) in
+    (files-fit n k corridor demands recorded _ told refl (r .0), record { ranged = s .0; judges = s .1 })
 
--- ---- 1 before all: t is what the test of N and K answered
+-- ---- 1 before all: t and a are what the test of N and K answered, as a test and as an answer
 
-module _ (n k : ℕ) (corridor demands words : List ℕ) (t : Bool) (e : t ≡ toldFits n k) where
-  pub check-wrong : t ≡ false → Refused 1 0 0 ≡ checkFiles n k corridor demands words
+module _ (n k : ℕ) (corridor demands recorded : List ℕ) (t : Bool) (e : t ≡ toldFits n k) (a : Answer) (q : a ≡ sized t) where
+  pub check-wrong : Refuses a → a ≡ checkFiles n k corridor demands recorded
   unfolding checkFiles
-  check-wrong h = ap (λ (x : Bool). orElse (sized x) (readThenCheck n k corridor demands words)) (sym h ∙ e)
+  check-wrong r = or-else-stop a _ _ (q ∙ ap sized e) r
 
-  pub check-right : t ≡ true → (a : Answer) → a ≡ readThenCheck n k corridor demands words → a ≡ checkFiles n k corridor demands words
+  pub check-told : a ≡ Accepted → Told n k
+  check-told h = told-is n k t e (sized-iff t .0 (sym q ∙ h))
+
+  pub check-right : a ≡ Accepted → (b : Answer) → b ≡ readThenCheck n k corridor demands recorded → b ≡ checkFiles n k corridor demands recorded
   unfolding checkFiles
-  check-right h a q = q ∙ ap (λ (x : Bool). orElse (sized x) (readThenCheck n k corridor demands words)) (sym h ∙ e)
+  check-right h b p = or-else-next a b _ _ (q ∙ ap sized e) h p
 
 -- with the length of the lent plan file
 abbrev pub roomFits : ℕ → ℕ → ℕ → Bool
@@ -122,26 +124,27 @@ room-told n k room t e h =
     let r = and-iff (toldFits n k) (eqb room (blocksFor (planLength n k) * 512)) .0 (sym e ∙ h) in
     (told-is n k _ refl (r .0), eqb-true _ _ (r .1))
 
-module _ (n k : ℕ) (corridor demands words lent : List ℕ) (t : Bool) (e : t ≡ roomFits n k (length lent)) where
-  wrong : t ≡ false → Refused 1 0 0 ≡ convertFiles n k corridor demands words (length lent)
-  unfolding convertFiles
-  wrong h = ap (λ (x : Bool). orElse (sized x) (readThenCheck n k corridor demands words)) (sym h ∙ e)
+module _ (n k : ℕ) (corridor demands recorded lent : List ℕ) (t : Bool) (e : t ≡ roomFits n k (length lent)) (z : Answer) (q : z ≡ sized t) where
+  pub convert-wrong : Refuses z → (z ≡ convertFiles n k corridor demands recorded (length lent)) × (lent ≡ planWritten n k corridor demands recorded lent)
+  unfolding convertFiles planWritten
+  convert-wrong r =
+      let is = or-else-stop z (sized (roomFits n k (length lent))) (readThenCheck n k corridor demands recorded) (q ∙ ap sized e) r in
+      (is, left-refused z _ _ lent is r)
 
-  pub convert-wrong : t ≡ false → (Refused 1 0 0 ≡ convertFiles n k corridor demands words (length lent)) × (lent ≡ planWritten n k corridor demands words lent)
-  unfolding planWritten
-  convert-wrong h = (wrong h, ap (λ (x : Answer). left x (planFile n k corridor demands words) lent) (wrong h))
+  module _ (g : z ≡ Accepted) where
+    pub convert-told : Told n k × (length lent ≡ blocksFor (planLength n k) * 512)
+    convert-told = room-told n k (length lent) t e (sized-iff t .0 (sym q ∙ g))
 
-  module _ (h : t ≡ true) (a : Answer) (q : a ≡ readThenCheck n k corridor demands words) where
-    right : a ≡ convertFiles n k corridor demands words (length lent)
-    unfolding convertFiles
-    right = q ∙ ap (λ (x : Bool). orElse (sized x) (readThenCheck n k corridor demands words)) (sym h ∙ e)
+    module _ (a : Answer) (p : a ≡ readThenCheck n k corridor demands recorded) where
+      right : a ≡ convertFiles n k corridor demands recorded (length lent)
+      unfolding convertFiles
+      right = or-else-next z a _ _ (q ∙ ap sized e) g p
 
-    pub convert-left : (number row node : ℕ) → a ≡ Refused number row node
-        → (a ≡ convertFiles n k corridor demands words (length lent)) × (lent ≡ planWritten n k corridor demands words lent)
-    unfolding planWritten
-    convert-left number row node g = (right, left-refused a _ number row node _ lent right g)
+      pub convert-left : Refuses a → (a ≡ convertFiles n k corridor demands recorded (length lent)) × (lent ≡ planWritten n k corridor demands recorded lent)
+      unfolding planWritten
+      convert-left r = (right, left-refused a _ _ lent right r)
 
-    pub convert-right : a ≡ Accepted → (file : List ℕ) → file ≡ planFile n k corridor demands words
-        → (a ≡ convertFiles n k corridor demands words (length lent)) × (file ≡ planWritten n k corridor demands words lent)
-    unfolding planWritten
-    convert-right g file w = (right, left-accepted a _ _ lent file right g w)
+      pub convert-right : a ≡ Accepted → (file : List ℕ) → file ≡ planFile n k corridor demands recorded
+          → (a ≡ convertFiles n k corridor demands recorded (length lent)) × (file ≡ planWritten n k corridor demands recorded lent)
+      unfolding planWritten
+      convert-right h file w = (right, left-accepted a _ _ lent file right h w)

@@ -1,43 +1,44 @@
--- Files that were read: what their own N and K and their lengths leave for the checks of the words in them.
-use Prim.Native.Nat.{ℕ, _+_, _*_, _/_, _%_}
-use mathlib.Core.Bool.{true, _&&_}
+-- Files that were read: what their own N and K and their lengths leave for the checks of the recorded in them.
+use Prim.Native.Nat.{ℕ, suc, _+_, _*_}
+use mathlib.Core.Bool.{true}
 use mathlib.Core.List.{List, []}
-use mathlib.Core.Path.{_≡_, refl, sym, ap, ap₂, subst, _∙_}
+use mathlib.Core.Path.{_≡_, refl, sym, ap, ap₂, subst, subst₂, _∙_}
 use native.Mathlib.Omega.{arith}
-use lib.Dec.{eqb}
 use lib.ListN.{length}
 use Rattle.tables.specs.declared.Answer.{Answer}
-use Rattle.tables.specs.declared.Answer.the-variants.{Accepted, Refused}
-use Rattle.tables.specs.Answer.{orElse, unless}
+use Rattle.tables.specs.declared.Answer.the-variants.{Accepted}
+use Rattle.tables.specs.Answer.{refusal}
+use Rattle.tables.proofs.Answers.{Refuses, or-else-stop, or-else-next}
 use Rattle.tables.proofs.Tabulate.{tabulate-length, tabulate-at}
 use Rattle.road.specs.Run.{cost}
-use Rattle.lists.specs.Words.{linksOf, stepsOf, roadOf, traceOf, corridorLength, demandsLength, recordLength}
+use Rattle.faults.specs.Records.{totalFault}
+use Rattle.lists.specs.Words.{linksOf, stepsOf, roadOf, recordWidth, traceOf, corridorLength, demandsLength, traceLength, recordLength}
 use Rattle.lists.specs.Refusals.{sizes, ranges}
 use Rattle.lists.specs.Fits.{CorridorFits, DemandsFit}
 use Rattle.lists.proofs.Limits.{sizes-iff}
-use Rattle.lists.proofs.Scans.{or-else-stop, or-else-next}
 use Rattle.convert.specs.Refusals.{costFault, judged}
-use Rattle.convert.specs.Rows.{bareRoad, Ready}
-use Rattle.convert.proofs.Answers.{ready, ready-as, cost-told}
-use Rattle.payload.specs.File.{payloadWord, payloadPart}
+use Rattle.convert.specs.Rows.{bareRoad, fixedRefusal, stepsRefusal, Ready}
+use Rattle.convert.proofs.Answers.{ready, ready-as, cost-told, judged-fixed, judged-steps, judged-cost}
+use Rattle.payload.specs.File.{blocksFor, payloadWord, payloadPart}
 use Rattle.payload.proofs.Payloads.{payload-all}
 use Rattle.files.specs.Files.{corridorIn, demandsIn, recordIn}
-use Rattle.files.specs.Fits.{FilesFit, Accepts}
+use Rattle.files.specs.Fits.{Holds, FilesFit, Accepts, wordsAnswer, FilesReady, FilesKept}
 
--- the cost's two words, read where they stand: v is the fault's number as the code has it
-pub cost-read : (links steps at total v low high : ℕ) (file : List ℕ) → low ≡ payloadWord file at → high ≡ payloadWord file (at + 1)
-    → v ≡ unless (eqb low (total % 4294967296) && eqb high (total / 4294967296)) 13 → at ≡ (steps + 1) * ((links + 1) * 4)
-    → total ≡ cost (bareRoad [] links steps) (traceOf (bareRoad [] links steps) (recordIn links steps file))
-    → v ≡ costFault (bareRoad [] links steps) (recordIn links steps file)
-cost-read links steps at total v low high file l h e p t =
-    cost-told links steps at total v (recordIn links steps file)
+-- the cost's two words, read where they stand: v is the fault's number as the code has it, and a the answer that is made of it
+pub cost-read : (links steps at w total v low high : ℕ) (file : List ℕ) (a : Answer) → low ≡ payloadWord file at → high ≡ payloadWord file (at + 1)
+    → v ≡ totalFault total low high → at ≡ (steps + 1) * w → w ≡ suc links * recordWidth
+    → total ≡ cost (bareRoad [] links steps) (traceOf recordWidth (bareRoad [] links steps) (recordIn recordWidth links steps file)) → a ≡ refusal v 0 0
+    → a ≡ refusal (costFault recordWidth (bareRoad [] links steps) (recordIn recordWidth links steps file)) 0 0
+cost-read links steps at w total v low high file a l h e p q t r =
+    let is : at ≡ traceLength recordWidth links steps = omega (arith, ap (λ (x : ℕ). (steps + 1) * x) q) in
+    cost-told recordWidth links steps at total v (recordIn recordWidth links steps file) a
     (e
-    ∙ ap₂ (λ (x y : ℕ). unless (eqb x (total % 4294967296) && eqb y (total / 4294967296)) 13)
-    (l ∙ sym (tabulate-at (recordLength links steps) (payloadWord file) at 0 (omega arith)))
-    (h ∙ sym (tabulate-at (recordLength links steps) (payloadWord file) (at + 1) 0 (omega arith))))
-    p t
+    ∙ ap₂ (totalFault total)
+    (l ∙ sym (tabulate-at (recordLength recordWidth links steps) (payloadWord file) at 0 (omega arith)))
+    (h ∙ sym (tabulate-at (recordLength recordWidth links steps) (payloadWord file) (at + 1) 0 (omega arith))))
+    is t r
 
-module _ (links steps : ℕ) (corridor demands words : List ℕ) (fit : FilesFit links steps corridor demands words) where
+module _ (links steps : ℕ) (corridor demands recorded : List ℕ) (fit : FilesFit links steps corridor demands recorded) where
   pub own-links : linksOf (corridorIn links corridor) ≡ links
   unfolding linksOf
   own-links = tabulate-at (corridorLength links) (payloadWord corridor) 0 0 (omega arith) ∙ fit .ownLinks
@@ -59,16 +60,16 @@ module _ (links steps : ℕ) (corridor demands words : List ℕ) (fit : FilesFit
         demandsFit = tabulate-length (demandsLength links steps) (payloadWord demands) ∙ ap₂ demandsLength (sym n) (sym k);
       })
 
-  pub read-length : length (recordIn links steps words) ≡ recordLength (linksOf (corridorIn links corridor)) (stepsOf (demandsIn links steps demands))
-  read-length = tabulate-length (recordLength links steps) (payloadWord words) ∙ ap₂ recordLength (sym own-links) (sym own-steps)
+  pub read-length : length (recordIn recordWidth links steps recorded) ≡ recordLength recordWidth (linksOf (corridorIn links corridor)) (stepsOf (demandsIn links steps demands))
+  read-length = tabulate-length (recordLength recordWidth links steps) (payloadWord recorded) ∙ ap₂ (recordLength recordWidth) (sym own-links) (sym own-steps)
 
   read-ready : (a : Answer) → a ≡ ranges (roadOf (corridorIn links corridor) (demandsIn links steps demands)) → a ≡ Accepted
-      → Ready (corridorIn links corridor) (demandsIn links steps demands) (recordIn links steps words) links steps
+      → Ready recordWidth (corridorIn links corridor) (demandsIn links steps demands) (recordIn recordWidth links steps recorded) links steps
   read-ready a e h =
-      ready-as _ _ _ links steps (ready (corridorIn links corridor) (demandsIn links steps demands) (recordIn links steps words) a read-sizes read-length e h)
+      ready-as _ _ _ _ links steps (ready (corridorIn links corridor) (demandsIn links steps demands) (recordIn recordWidth links steps recorded) a read-sizes read-length e h)
       (sym own-links) (sym own-steps)
 
-  -- ---- the corridor's words are unpacked into a list
+  -- ---- the corridor's recorded are unpacked into a list
 
   module _ (count : ℕ) (list : List ℕ) (told : list ≡ payloadPart 0 count corridor) (fits : count ≡ corridorLength links) where
     pub corridor-read : corridorIn links corridor ≡ list
@@ -88,26 +89,59 @@ module _ (links steps : ℕ) (corridor demands words : List ℕ) (fit : FilesFit
           words = tabulate-length (demandsLength links steps) (payloadWord demands);
         }
 
-    pub list-ready : (a : Answer) → a ≡ ranges (roadOf list (demandsIn links steps demands)) → a ≡ Accepted
-        → Ready list (demandsIn links steps demands) (recordIn links steps words) links steps
+    list-ready : (a : Answer) → a ≡ ranges (roadOf list (demandsIn links steps demands)) → a ≡ Accepted
+        → Ready recordWidth list (demandsIn links steps demands) (recordIn recordWidth links steps recorded) links steps
     list-ready =
         subst
-        (λ (x : List ℕ). (a : Answer) → a ≡ ranges (roadOf x (demandsIn links steps demands)) → a ≡ Accepted → Ready x (demandsIn links steps demands) (recordIn links steps words) links steps)
+        (λ (x : List ℕ). (a : Answer) → a ≡ ranges (roadOf x (demandsIn links steps demands)) → a ≡ Accepted → Ready recordWidth x (demandsIn links steps demands) (recordIn recordWidth links steps recorded) links steps)
         corridor-read read-ready
 
-    -- a is what 2 to 5 answered, and b what 7 to 13 did
-    pub contents-stop : (a : Answer) (number row node : ℕ) → a ≡ ranges (roadOf list (demandsIn links steps demands)) → a ≡ Refused number row node
-        → a ≡ orElse (ranges (roadOf (corridorIn links corridor) (demandsIn links steps demands))) (judged (roadOf (corridorIn links corridor) (demandsIn links steps demands)) (recordIn links steps words))
-    contents-stop a number row node e h =
-        or-else-stop a _ _ number row node (e ∙ ap (λ (x : List ℕ). ranges (roadOf x (demandsIn links steps demands))) (sym corridor-read)) h
+    pub list-files : (a : Answer) → a ≡ ranges (roadOf list (demandsIn links steps demands)) → a ≡ Accepted → FilesReady links steps list demands recorded
+    list-files a e h = record { ready = list-ready a e h; demandsHold = fit .demandsHold; recordHolds = fit .recordHolds }
 
-    pub contents-next : (a b : Answer) → a ≡ ranges (roadOf list (demandsIn links steps demands)) → a ≡ Accepted → b ≡ judged (roadOf list (demandsIn links steps demands)) (recordIn links steps words)
-        → b ≡ orElse (ranges (roadOf (corridorIn links corridor) (demandsIn links steps demands))) (judged (roadOf (corridorIn links corridor) (demandsIn links steps demands)) (recordIn links steps words))
+    -- a is what 2 to 5 answered, and b what 7 to 13 did
+    pub contents-stop : (a : Answer) → a ≡ ranges (roadOf list (demandsIn links steps demands)) → Refuses a → a ≡ wordsAnswer links steps corridor demands recorded
+    contents-stop a e h =
+        or-else-stop a _ _ (e ∙ ap (λ (x : List ℕ). ranges (roadOf x (demandsIn links steps demands))) (sym corridor-read)) h
+
+    pub contents-next : (a b : Answer) → a ≡ ranges (roadOf list (demandsIn links steps demands)) → a ≡ Accepted → b ≡ judged recordWidth (roadOf list (demandsIn links steps demands)) (recordIn recordWidth links steps recorded)
+        → b ≡ wordsAnswer links steps corridor demands recorded
     contents-next a b e h q =
         or-else-next a b _ _ (e ∙ ap (λ (x : List ℕ). ranges (roadOf x (demandsIn links steps demands))) (sym corridor-read)) h
-        (q ∙ ap (λ (x : List ℕ). judged (roadOf x (demandsIn links steps demands)) (recordIn links steps words)) (sym corridor-read))
+        (q ∙ ap (λ (x : List ℕ). judged recordWidth (roadOf x (demandsIn links steps demands)) (recordIn recordWidth links steps recorded)) (sym corridor-read))
 
-    pub list-accepts : Accepts links steps corridor demands words
-        → Ready list (demandsIn links steps demands) (recordIn links steps words) links steps × (judged (roadOf list (demandsIn links steps demands)) (recordIn links steps words) ≡ Accepted)
-    list-accepts h =
-        (list-ready _ refl (subst (λ (x : List ℕ). ranges (roadOf x (demandsIn links steps demands)) ≡ Accepted) corridor-read (h .ranged)), subst (λ (x : List ℕ). judged (roadOf x (demandsIn links steps demands)) (recordIn links steps words) ≡ Accepted) corridor-read (h .judges))
+    pub list-kept : Accepts links steps corridor demands recorded → FilesKept links steps list demands recorded
+    list-kept h =
+        record {
+          files = list-files _ refl (subst (λ (x : List ℕ). ranges (roadOf x (demandsIn links steps demands)) ≡ Accepted) corridor-read (h .ranged));
+          judges = subst (λ (x : List ℕ). judged recordWidth (roadOf x (demandsIn links steps demands)) (recordIn recordWidth links steps recorded) ≡ Accepted) corridor-read (h .judges);
+        }
+
+-- ---- the cost's words lie in the record's file: at is where they start, and w how many words a row has
+
+pub cost-inside : (links steps at w : ℕ) (file : List ℕ) → at ≡ (steps + 1) * w → w ≡ suc links * recordWidth → Holds (recordLength recordWidth links steps) file
+    → blocksFor (at + 2) * 512 ≡ length file
+cost-inside links steps at w file e q h = omega (arith, ap (λ (x : ℕ). (steps + 1) * x) q)
+
+-- ---- 7 to 13 of files whose words are ready: a is the first scan's answer, b the second's, c the third's
+
+module _ (links steps : ℕ) (corridor demands recorded : List ℕ) (files : FilesReady links steps corridor demands recorded) where
+  own : Ready recordWidth corridor (demandsIn links steps demands) (recordIn recordWidth links steps recorded) (linksOf corridor) (stepsOf (demandsIn links steps demands))
+  own =
+      subst₂ (λ (l s : ℕ). Ready recordWidth corridor (demandsIn links steps demands) (recordIn recordWidth links steps recorded) l s)
+      (files .ready .corridorFits .first) (files .ready .demandsFit .first) (files .ready)
+
+  pub files-fixed : (a : Answer) → a ≡ fixedRefusal recordWidth corridor links steps (recordIn recordWidth links steps recorded) → Refuses a
+      → a ≡ judged recordWidth (roadOf corridor (demandsIn links steps demands)) (recordIn recordWidth links steps recorded)
+  files-fixed a e h = judged-fixed _ _ _ _ links steps own (files .ready .corridorFits .first) (files .ready .demandsFit .first) a e h
+
+  pub files-steps : (a b : Answer) → a ≡ fixedRefusal recordWidth corridor links steps (recordIn recordWidth links steps recorded) → a ≡ Accepted
+      → b ≡ stepsRefusal recordWidth corridor (demandsIn links steps demands) links (recordIn recordWidth links steps recorded) steps → Refuses b
+      → b ≡ judged recordWidth (roadOf corridor (demandsIn links steps demands)) (recordIn recordWidth links steps recorded)
+  files-steps a b e h q p = judged-steps _ _ _ _ links steps own (files .ready .corridorFits .first) (files .ready .demandsFit .first) a b e h q p
+
+  pub files-cost : (a b c : Answer) → a ≡ fixedRefusal recordWidth corridor links steps (recordIn recordWidth links steps recorded) → a ≡ Accepted
+      → b ≡ stepsRefusal recordWidth corridor (demandsIn links steps demands) links (recordIn recordWidth links steps recorded) steps → b ≡ Accepted
+      → c ≡ refusal (costFault recordWidth (bareRoad [] links steps) (recordIn recordWidth links steps recorded)) 0 0
+      → c ≡ judged recordWidth (roadOf corridor (demandsIn links steps demands)) (recordIn recordWidth links steps recorded)
+  files-cost a b c e h q p t = judged-cost _ _ _ _ links steps own (files .ready .corridorFits .first) (files .ready .demandsFit .first) a b c e h q p t

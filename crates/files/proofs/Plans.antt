@@ -8,7 +8,7 @@ use lib.ListN.{length, take, drop}
 use Rattle.tables.proofs.Grid.{rowWords-length}
 use Rattle.tables.proofs.Numbers.{row-fits}
 use Rattle.tables.proofs.Tabulate.{tabulate-length}
-use Rattle.lists.specs.Words.{planLength, corridorLength}
+use Rattle.lists.specs.Words.{free, recordWidth, Width, planLength, corridorLength}
 use Rattle.convert.specs.Convert.{converted}
 use Rattle.convert.specs.Rows.{planRow, settingWord, Ready}
 use Rattle.convert.proofs.Settings.{PlanRows, plan-begun, plan-more, plan-ended}
@@ -25,66 +25,72 @@ use Rattle.files.proofs.Contents.{corridor-read}
 
 -- ---- as a loop's invariant: the first k rows stand in the file
 
-pub record PlanPut (corridor demands words : List ℕ) (links steps k : ℕ) (lent file : List ℕ) : Type 0 where
-  pub rows : PlanRows corridor (demandsIn links steps demands) (recordIn links steps words) links steps k (payloadOf (planLength links steps) lent) (payloadOf (planLength links steps) file)
+pub record PlanPut (corridor demands recorded : List ℕ) (links steps k : ℕ) (lent file : List ℕ) : Type 0 where
+  pub rows : PlanRows corridor (demandsIn links steps demands) (recordIn recordWidth links steps recorded) links steps k (payloadOf (planLength links steps) lent) (payloadOf (planLength links steps) file)
   pub holds : Holds (planLength links steps) file
 
-pub put-begun : (corridor demands words : List ℕ) (links steps : ℕ) (lent : List ℕ) → Holds (planLength links steps) lent → PlanPut corridor demands words links steps 0 lent lent
-put-begun corridor demands words links steps lent h =
+pub put-begun : (corridor demands recorded : List ℕ) (links steps : ℕ) (lent : List ℕ) → Holds (planLength links steps) lent → PlanPut corridor demands recorded links steps 0 lent lent
+put-begun corridor demands recorded links steps lent h =
     record { rows = plan-begun corridor _ _ links steps _ (tabulate-length (planLength links steps) (payloadWord lent)); holds = h }
 
--- the plan's row of step k, in the words of the lists
-row-read : (corridor demands words : List ℕ) (links steps k : ℕ) → k < steps
-    → planRowIn corridor links demands words k
-    ≡ planRow corridor links
-    (take (1 + k * ((links + 1) * 2) + (links + 1) * 2 - (1 + k * ((links + 1) * 2))) (drop (1 + k * ((links + 1) * 2)) (demandsIn links steps demands)))
-    (take (k * ((links + 1) * 4) + (links + 1) * 4 - k * ((links + 1) * 4)) (drop (k * ((links + 1) * 4)) (recordIn links steps words)))
-row-read corridor demands words links steps k h =
-    ap₂ (planRow corridor links) (demand-part links steps k demands _ refl h) (state-part links steps k words _ refl (omega arith))
+-- the width of a record's row, as a fact
+pub record-wide : Width recordWidth
+record-wide = record { least = omega arith; most = omega arith }
 
-row-count : (corridor demand row : List ℕ) (links : ℕ) → length (planRow corridor links demand row) ≡ (links + 1) * 2
+-- the plan's row of step k, in the words of the lists
+row-read : (corridor demands recorded : List ℕ) (links steps k : ℕ) → k < steps
+    → planRowIn corridor links demands recorded k
+    ≡ planRow recordWidth corridor links
+    (take (1 + k * ((links + 1) * 2) + (links + 1) * 2 - (1 + k * ((links + 1) * 2))) (drop (1 + k * ((links + 1) * 2)) (demandsIn links steps demands)))
+    free
+    (take (k * (suc links * recordWidth) + suc links * recordWidth - k * (suc links * recordWidth)) (drop (k * (suc links * recordWidth)) (recordIn recordWidth links steps recorded)))
+row-read corridor demands recorded links steps k h =
+    ap₂ (λ (x y : List ℕ). planRow recordWidth corridor links x free y) (demand-part links steps k demands _ refl h)
+    (state-part recordWidth record-wide links steps recorded k _ refl (omega arith))
+
+row-count : (corridor demand : List ℕ) (downstream : ℕ) (row : List ℕ) (links : ℕ) → length (planRow recordWidth corridor links demand downstream row) ≡ (links + 1) * 2
 unfolding planRow
-row-count corridor demand row links =
-    let e : length (planRow corridor links demand row) ≡ suc links * 2 = rowWords-length 2 (suc links) (settingWord corridor demand row) in
+row-count corridor demand downstream row links =
+    let e : length (planRow recordWidth corridor links demand downstream row) ≡ suc links * 2 = rowWords-length 2 (suc links) (settingWord recordWidth corridor demand downstream row) in
     omega arith
 
 -- ---- one row: it fits the file, and it is the plan's
 
-pub put-fits : (links steps at room : ℕ) (corridor demand row out : List ℕ) → out ≡ planRow corridor links demand row → room ≡ blocksFor (planLength links steps) * 512
+pub put-fits : (links steps at room downstream : ℕ) (corridor demand row out : List ℕ) → out ≡ planRow recordWidth corridor links demand downstream row → room ≡ blocksFor (planLength links steps) * 512
     → at + (links + 1) * 2 ≤ steps * ((links + 1) * 2) → blocksFor (at + length out) * 512 ≤ room
-put-fits links steps at room corridor demand row out e f h =
-    let n : length out ≡ (links + 1) * 2 = ap length e ∙ row-count corridor demand row links in
+put-fits links steps at room downstream corridor demand row out e f h =
+    let n : length out ≡ (links + 1) * 2 = ap length e ∙ row-count corridor demand downstream row links in
     omega arith
 
 -- r is where it starts
-pub put-told : (links k r : ℕ) (corridor demands words demand row out : List ℕ) (lent : List ℕ) {file : List ℕ} → out ≡ planRow corridor links demand row
-    → demand ≡ demandRowIn links demands k → row ≡ stateRowIn links words k → r ≡ k * ((links + 1) * 2) → (file ≡ putPayload lent r out) × Words out
-    → (file ≡ putPayload lent (k * ((links + 1) * 2)) (planRowIn corridor links demands words k)) × Words (planRowIn corridor links demands words k)
-put-told links k r corridor demands words demand row out lent o d w e told =
-    let is : out ≡ planRowIn corridor links demands words k = o ∙ ap₂ (planRow corridor links) d w in
+pub put-told : (links k r downstream : ℕ) (corridor demands recorded demand row out : List ℕ) (lent : List ℕ) {file : List ℕ} → out ≡ planRow recordWidth corridor links demand downstream row
+    → downstream ≡ free → demand ≡ demandRowIn links demands k → row ≡ stateRowIn recordWidth links recorded k → r ≡ k * ((links + 1) * 2) → (file ≡ putPayload lent r out) × Words out
+    → (file ≡ putPayload lent (k * ((links + 1) * 2)) (planRowIn corridor links demands recorded k)) × Words (planRowIn corridor links demands recorded k)
+put-told links k r downstream corridor demands recorded demand row out lent o f d w e told =
+    let is : out ≡ planRowIn corridor links demands recorded k = o ∙ (λ z. planRow recordWidth corridor links (d z) (f z) (w z)) in
     (told .0 ∙ ap₂ (putPayload lent) e is, subst Words is (told .1))
 
-module _ (corridor demands words : List ℕ) (links steps : ℕ) (ready : Ready corridor (demandsIn links steps demands) (recordIn links steps words) links steps) where
-  pub put-more : (k : ℕ) (lent file file′ : List ℕ) → PlanPut corridor demands words links steps k lent file → k < steps
-      → file′ ≡ putPayload file (k * ((links + 1) * 2)) (planRowIn corridor links demands words k) → Words (planRowIn corridor links demands words k)
-      → PlanPut corridor demands words links steps (k + 1) lent file′
+module _ (corridor demands recorded : List ℕ) (links steps : ℕ) (ready : Ready recordWidth corridor (demandsIn links steps demands) (recordIn recordWidth links steps recorded) links steps) where
+  pub put-more : (k : ℕ) (lent file file′ : List ℕ) → PlanPut corridor demands recorded links steps k lent file → k < steps
+      → file′ ≡ putPayload file (k * ((links + 1) * 2)) (planRowIn corridor links demands recorded k) → Words (planRowIn corridor links demands recorded k)
+      → PlanPut corridor demands recorded links steps (k + 1) lent file′
   put-more k lent file file′ p h e w =
       let m : ℕ = planLength links steps in
       let r : ℕ = k * ((links + 1) * 2) in
-      let ys : List ℕ = planRowIn corridor links demands words k in
-      let n : length (planRowIn corridor links demands words k) ≡ (links + 1) * 2 = row-count corridor _ _ links in
+      let ys : List ℕ = planRowIn corridor links demands recorded k in
+      let n : length (planRowIn corridor links demands recorded k) ≡ (links + 1) * 2 = row-count corridor _ _ _ links in
       let put : payloadOf m file′ ≡ putMid r (r + (links + 1) * 2 - r) (payloadOf m file) ys =
       ap (payloadOf m) e
       ∙ payload-put m r file ys w (omega (arith, row-fits k steps ((links + 1) * 2) h)) (omega (arith, p .holds))
       ∙ ap (λ (x : ℕ). putMid r (r + x - r) (payloadOf m file) ys) n in
       record {
-        rows = subst (λ (x : List ℕ). PlanRows corridor (demandsIn links steps demands) (recordIn links steps words) links steps (k + 1) (payloadOf m lent) x) (sym put)
-            (plan-more corridor _ _ links steps ready k r (k * ((links + 1) * 4)) _ _ ys (p .rows) h refl refl (row-read corridor demands words links steps k h));
+        rows = subst (λ (x : List ℕ). PlanRows corridor (demandsIn links steps demands) (recordIn recordWidth links steps recorded) links steps (k + 1) (payloadOf m lent) x) (sym put)
+            (plan-more corridor _ _ links steps ready k r (k * (suc links * recordWidth)) (suc links * recordWidth) free _ _ ys (p .rows) h refl refl refl refl (row-read corridor demands recorded links steps k h));
         holds = ap length e ∙ put-length-same file r ys ∙ p .holds;
       }
 
-  pub put-ended : (k : ℕ) (lent file : List ℕ) → PlanPut corridor demands words links steps k lent file → steps ≤ k
-      → (payloadOf (planLength links steps) file ≡ converted corridor (demandsIn links steps demands) (recordIn links steps words)) × Holds (planLength links steps) file
+  pub put-ended : (k : ℕ) (lent file : List ℕ) → PlanPut corridor demands recorded links steps k lent file → steps ≤ k
+      → (payloadOf (planLength links steps) file ≡ converted corridor (demandsIn links steps demands) (recordIn recordWidth links steps recorded)) × Holds (planLength links steps) file
   put-ended k lent file p h = (plan-ended corridor _ _ links steps ready k _ _ (p .rows) h, p .holds)
 
 -- ---- sealed: m is the plan's length as the code has it
@@ -96,14 +102,14 @@ seal-fits links steps m room t h e =
     let l : listLength Plan links steps ≤ 374662 = length-high Plan links steps t in
     (omega arith, omega arith)
 
-pub plan-sealed : (links steps : ℕ) (corridor demands words : List ℕ) → FilesFit links steps corridor demands words
+pub plan-sealed : (links steps : ℕ) (corridor demands recorded : List ℕ) → FilesFit links steps corridor demands recorded
     → (count : ℕ) (list : List ℕ) → list ≡ payloadPart 0 count corridor → count ≡ corridorLength links
-    → (m : ℕ) (file sealed : List ℕ) → m ≡ steps * ((links + 1) * 2) → payloadOf (planLength links steps) file ≡ converted list (demandsIn links steps demands) (recordIn links steps words)
-    → sealed ≡ fileOf 4 (payloadOf m file) → sealed ≡ planFile links steps corridor demands words
+    → (m : ℕ) (file sealed : List ℕ) → m ≡ steps * ((links + 1) * 2) → payloadOf (planLength links steps) file ≡ converted list (demandsIn links steps demands) (recordIn recordWidth links steps recorded)
+    → sealed ≡ fileOf 4 (payloadOf m file) → sealed ≡ planFile links steps corridor demands recorded
 unfolding planFile kindNumber
-plan-sealed links steps corridor demands words fit count list told fits m file sealed q e s =
+plan-sealed links steps corridor demands recorded fit count list told fits m file sealed q e s =
     let l : m ≡ planLength links steps = omega arith in
     s
     ∙ ap (λ (n : ℕ). fileOf 4 (payloadOf n file)) l
     ∙ ap (fileOf 4) e
-    ∙ ap (λ (x : List ℕ). fileOf 4 (converted x (demandsIn links steps demands) (recordIn links steps words))) (sym (corridor-read links steps corridor demands words fit count list told fits))
+    ∙ ap (λ (x : List ℕ). fileOf 4 (converted x (demandsIn links steps demands) (recordIn recordWidth links steps recorded))) (sym (corridor-read links steps corridor demands recorded fit count list told fits))

@@ -10,97 +10,122 @@ use Rattle.tables.specs.declared.Answer.the-variants.{Accepted}
 use Rattle.tables.specs.First.{firstNode}
 use Rattle.tables.proofs.Numbers.{row-fits}
 use Rattle.tables.proofs.Tabulate.{tabulate-length}
-use Rattle.lists.specs.Words.{linksOf, roadOf, traceOf, demandsLength, recordLength}
-use Rattle.lists.specs.Rows.{stateIn, flowsIn}
+use Rattle.lists.specs.declared.inner.scans.NodeTest.{NodeTest}
+use Rattle.lists.specs.Words.{linksOf, free, roadOf, recordWidth, Width, traceOf, demandsLength, recordLength}
 use Rattle.lists.specs.Fits.{RowFits}
-use Rattle.lists.specs.Scans.{demandFaultIn, demandFaultAt}
-use Rattle.lists.proofs.Scans.{demand-row-told}
+use Rattle.lists.specs.Scans.{nodeFaultIn, nodeFaultAt}
+use Rattle.lists.proofs.Scans.{row-told}
 use Rattle.simulate.specs.Rows.{rowCost}
 use Rattle.simulate.proofs.Steps.{DemandRow}
-use Rattle.convert.specs.Refusals.{fixedAt, stepAt, judged}
+use Rattle.convert.specs.Refusals.{judged}
 use Rattle.convert.specs.Convert.{settingAt}
-use Rattle.convert.specs.Rows.{bareRoad, fixedFaultIn, stepFaultIn, fixedRefusal, stepsRefusal, settingIn, NodeKept, Ready}
+use Rattle.convert.specs.Rows.{fixedFaultIn, stepFaultIn, fixedRowRefusal, fixedRefusal, stepRefusal, stepsRefusal, stateCostAt, settingIn, RowsKept, SentKept, Ready}
 use Rattle.convert.proofs.Rows.{TraceRow, fixed-row-told, demand-lent, trace-lent, step-told, step-kept, plan-kept, plan-sent, row-setting}
-use Rattle.convert.proofs.Answers.{stateCost, row-cost-told}
-use Rattle.payload.specs.File.{payloadPart}
+use Rattle.convert.proofs.Answers.{row-cost-told}
+use Rattle.payload.specs.File.{blocksFor, payloadPart}
 use Rattle.payload.proofs.Payloads.{payload-part}
 use Rattle.files.specs.Files.{demandsIn, recordIn}
-use Rattle.files.specs.Fits.{demandRowIn, stateRowIn}
+use Rattle.files.specs.Fits.{Holds, demandRowIn, stateRowIn}
 
 -- ---- a row of n words from word `from` on, as the code has these numbers
 
 pub unpacked : (at count from n : ℕ) (file row : List ℕ) → row ≡ payloadPart at count file → at ≡ from → count ≡ n → row ≡ payloadPart from n file
 unpacked at count from n file row told e c = told ∙ ap₂ (λ (x y : ℕ). payloadPart x y file) e c
 
-pub row-length : (c links from : ℕ) (file row : List ℕ) → row ≡ payloadPart from ((links + 1) * c) file → RowFits c row links
-row-length c links from file row told = ap length told ∙ tabulate-length ((links + 1) * c) _ ∙ ap (λ (n : ℕ). n * c) (add-one links)
+pub demand-length : (links k : ℕ) (file row : List ℕ) → row ≡ demandRowIn links file k → RowFits 2 row links
+demand-length links k file row told = ap length told ∙ tabulate-length ((links + 1) * 2) _ ∙ ap (λ (n : ℕ). n * 2) (add-one links)
+
+pub state-length : (width links k : ℕ) (file row : List ℕ) → row ≡ stateRowIn width links file k → RowFits width row links
+state-length width links k file row told = ap length told ∙ tabulate-length (suc links * width) _
+
+-- a record's row of w words that begins at `at`, as calls gave them, lies in the file
+pub state-holds : (links steps at w count : ℕ) (file : List ℕ) → at + w ≤ (steps + 1) * w → w ≡ suc links * recordWidth → count ≡ suc links * recordWidth
+    → Holds (recordLength recordWidth links steps) file → blocksFor (at + count) * 512 ≤ length file
+state-holds links steps at w count file h q c e = omega (arith, ap (λ (x : ℕ). (steps + 1) * x) q)
 
 -- ---- it is a part of the list, and what a call finds in it, it finds in the whole list
 
-module _ (links steps k : ℕ) (file row : List ℕ) where
-  module _ (told : row ≡ demandRowIn links file k) (h : k < steps) where
-    pub demand-part : row ≡ take (1 + k * ((links + 1) * 2) + (links + 1) * 2 - (1 + k * ((links + 1) * 2))) (drop (1 + k * ((links + 1) * 2)) (demandsIn links steps file))
-    demand-part = told ∙ payload-part (1 + k * ((links + 1) * 2)) ((links + 1) * 2) (demandsLength links steps) file (omega (arith, row-fits k steps ((links + 1) * 2) h))
+module _ (links steps k : ℕ) (file row : List ℕ) (told : row ≡ demandRowIn links file k) (h : k < steps) where
+  pub demand-part : row ≡ take (1 + k * ((links + 1) * 2) + (links + 1) * 2 - (1 + k * ((links + 1) * 2))) (drop (1 + k * ((links + 1) * 2)) (demandsIn links steps file))
+  demand-part = told ∙ payload-part (1 + k * ((links + 1) * 2)) ((links + 1) * 2) (demandsLength links steps) file (omega (arith, row-fits k steps ((links + 1) * 2) h))
 
-    pub demand-found : (a : Answer) → a ≡ firstNode (suc links) k (demandFaultIn links row) → a ≡ firstNode (suc links) k (demandFaultAt (demandsIn links steps file) links k)
-    demand-found a found =
-        demand-row-told (demandsIn links steps file) links k (k * ((links + 1) * 2)) a
-        (subst (λ (x : List ℕ). a ≡ firstNode (suc links) k (demandFaultIn links x)) demand-part found) refl
+  pub demand-found : (test : NodeTest) (corridor : List ℕ) (a : Answer) → a ≡ firstNode (suc links) k (nodeFaultIn test corridor links row)
+      → a ≡ firstNode (suc links) k (nodeFaultAt test corridor links 1 (demandsIn links steps file) k)
+  demand-found test corridor a found =
+      row-told test corridor (demandsIn links steps file) links 1 k (k * ((links + 1) * 2)) a
+      (subst (λ (x : List ℕ). a ≡ firstNode (suc links) k (nodeFaultIn test corridor links x)) demand-part found) refl
 
-  module _ (told : row ≡ stateRowIn links file k) (h : k ≤ steps) where
-    pub state-part : row ≡ take (k * ((links + 1) * 4) + (links + 1) * 4 - k * ((links + 1) * 4)) (drop (k * ((links + 1) * 4)) (recordIn links steps file))
-    state-part = told ∙ payload-part (k * ((links + 1) * 4)) ((links + 1) * 4) (recordLength links steps) file (omega (arith, row-fits k (suc steps) ((links + 1) * 4) (omega arith)))
+module _ (width : ℕ) (wide : Width width) (links steps : ℕ) (file : List ℕ) where
+  pub state-part : (k : ℕ) (row : List ℕ) → row ≡ stateRowIn width links file k → k ≤ steps
+      → row ≡ take (k * (suc links * width) + suc links * width - k * (suc links * width)) (drop (k * (suc links * width)) (recordIn width links steps file))
+  state-part k row told h =
+      told ∙ payload-part (k * (suc links * width)) (suc links * width) (recordLength width links steps) file (omega (arith, row-fits k (suc steps) (suc links * width) (omega arith)))
 
-    pub fixed-found : (corridor : List ℕ) (a : Answer) → a ≡ firstNode (suc links) k (fixedFaultIn corridor links steps k row)
-        → a ≡ firstNode (suc links) k (fixedAt (bareRoad corridor links steps) (traceOf (bareRoad corridor links steps) (recordIn links steps file)) k)
-    fixed-found corridor a found =
-        fixed-row-told corridor (recordIn links steps file) links steps k (k * ((links + 1) * 4)) a
-        (subst (λ (x : List ℕ). a ≡ firstNode (suc links) k (fixedFaultIn corridor links steps k x)) state-part found) refl
+  pub fixed-found : (k : ℕ) (row : List ℕ) → row ≡ stateRowIn width links file k → k ≤ steps → (corridor : List ℕ) (a : Answer)
+      → a ≡ firstNode (suc links) k (fixedFaultIn width corridor links steps k row) → a ≡ fixedRowRefusal width corridor links steps (recordIn width links steps file) k
+  fixed-found k row told h corridor a found =
+      fixed-row-told width corridor (recordIn width links steps file) links steps k (k * (suc links * width)) (suc links * width) a wide
+      (subst (λ (x : List ℕ). a ≡ firstNode (suc links) k (fixedFaultIn width corridor links steps k x)) (state-part k row told h) found) refl refl
 
-pub cost-found : (links steps k : ℕ) (file row : List ℕ) → row ≡ stateRowIn links file (k + 1) → k < steps → (v : ℕ) → v ≡ rowCost links row → v ≡ stateCost links steps (recordIn links steps file) k
-cost-found links steps k file row told h v found =
-    row-cost-told links steps k ((k + 1) * ((links + 1) * 4)) v (recordIn links steps file)
-    (subst (λ (x : List ℕ). v ≡ rowCost links x) (state-part links steps (k + 1) file row told (omega arith)) found) refl
+  pub cost-found : (k : ℕ) (row : List ℕ) → row ≡ stateRowIn width links file (k + 1) → k < steps → (v : ℕ) → v ≡ rowCost width links row
+      → v ≡ stateCostAt width links steps (recordIn width links steps file) k
+  cost-found k row told h v found =
+      row-cost-told width links steps k ((k + 1) * (suc links * width)) (suc links * width) v (recordIn width links steps file) wide
+      (subst (λ (x : List ℕ). v ≡ rowCost width links x) (state-part (k + 1) row told (omega arith)) found) refl refl
 
 -- ---- the rows of step k say what the lists say of it
 
-module _ (corridor demands words : List ℕ) (links steps : ℕ) (ready : Ready corridor (demandsIn links steps demands) (recordIn links steps words) links steps) where
-  state-read : (k : ℕ) (row : List ℕ) → row ≡ stateRowIn links words k → k ≤ steps
-      → TraceRow (linksOf corridor) (traceOf (roadOf corridor (demandsIn links steps demands)) (recordIn links steps words)) k row
+module _ (width : ℕ) (corridor demands recorded : List ℕ) (links steps : ℕ) (ready : Ready width corridor (demandsIn links steps demands) (recordIn width links steps recorded) links steps) where
+  state-read : (k : ℕ) (row : List ℕ) → row ≡ stateRowIn width links recorded k → k ≤ steps
+      → TraceRow width (linksOf corridor) (traceOf width (roadOf corridor (demandsIn links steps demands)) (recordIn width links steps recorded)) k row
   state-read k row told h =
-      subst (λ (x : List ℕ). TraceRow (linksOf corridor) (traceOf (roadOf corridor (demandsIn links steps demands)) (recordIn links steps words)) k x)
-      (sym (state-part links steps k words row told h))
-      (trace-lent corridor (demandsIn links steps demands) (recordIn links steps words) links steps ready k k (k * ((links + 1) * 4)) refl)
+      subst (λ (x : List ℕ). TraceRow width (linksOf corridor) (traceOf width (roadOf corridor (demandsIn links steps demands)) (recordIn width links steps recorded)) k x)
+      (sym (state-part width (ready .wide) links steps recorded k row told h))
+      (trace-lent width corridor (demandsIn links steps demands) (recordIn width links steps recorded) links steps ready k k (k * (suc links * width)) (suc links * width) refl refl)
 
-  module _ (k : ℕ) (demand row : List ℕ) (d : demand ≡ demandRowIn links demands k) (t : row ≡ stateRowIn links words k) (h : k < steps) where
+  module _ (k : ℕ) (demand row : List ℕ) (d : demand ≡ demandRowIn links demands k) (t : row ≡ stateRowIn width links recorded k) (h : k < steps) where
     demand-read : DemandRow corridor (demandsIn links steps demands) k demand
     demand-read =
         subst (λ (x : List ℕ). DemandRow corridor (demandsIn links steps demands) k x) (sym (demand-part links steps k demands demand d h))
-        (demand-lent corridor (demandsIn links steps demands) (recordIn links steps words) links steps ready k (k * ((links + 1) * 2)) refl)
+        (demand-lent width corridor (demandsIn links steps demands) (recordIn width links steps recorded) links steps ready k (k * ((links + 1) * 2)) refl)
 
-    row-read : TraceRow (linksOf corridor) (traceOf (roadOf corridor (demandsIn links steps demands)) (recordIn links steps words)) k row
+    row-read : TraceRow width (linksOf corridor) (traceOf width (roadOf corridor (demandsIn links steps demands)) (recordIn width links steps recorded)) k row
     row-read = state-read k row t (omega arith)
 
-    pub step-found : (after : List ℕ) (a : Answer) → after ≡ stateRowIn links words (k + 1)
-        → a ≡ firstNode (suc links) k (stepFaultIn corridor demand row after)
-        → a ≡ firstNode (suc links) k (stepAt (roadOf corridor (demandsIn links steps demands)) (traceOf (roadOf corridor (demandsIn links steps demands)) (recordIn links steps words)) k)
-    step-found after a told =
-        step-told corridor _ _ links steps ready k demand row demand-read row-read after a
-        (subst (λ (j : ℕ). TraceRow (linksOf corridor) (traceOf (roadOf corridor (demandsIn links steps demands)) (recordIn links steps words)) j after) (add-one k)
+    pub step-found : (downstream : ℕ) → downstream ≡ free → (after : List ℕ) (a : Answer) → after ≡ stateRowIn width links recorded (k + 1)
+        → a ≡ firstNode (suc links) k (stepFaultIn width corridor demand downstream row after)
+        → a ≡ stepRefusal width corridor (demandsIn links steps demands) links (recordIn width links steps recorded) k
+    step-found downstream f after a told =
+        step-told width corridor _ _ links steps ready k demand row demand-read row-read downstream f after a
+        (subst (λ (j : ℕ). TraceRow width (linksOf corridor) (traceOf width (roadOf corridor (demandsIn links steps demands)) (recordIn width links steps recorded)) j after) (add-one k)
         (state-read (k + 1) after told (omega arith)))
 
-    pub setting-found : (i : ℕ) → i ≤ links → settingIn corridor demand row i
-        ≡ settingAt (roadOf corridor (demandsIn links steps demands)) (traceOf (roadOf corridor (demandsIn links steps demands)) (recordIn links steps words)) k i
-    setting-found i b = row-setting corridor _ _ links steps ready k demand row demand-read row-read i (omega (arith, ready .corridorFits .first))
+    pub setting-found : (downstream : ℕ) → downstream ≡ free → (i : ℕ) → i ≤ links → settingIn width corridor demand downstream row i
+        ≡ settingAt (roadOf corridor (demandsIn links steps demands)) (traceOf width (roadOf corridor (demandsIn links steps demands)) (recordIn width links steps recorded)) k i
+    setting-found downstream f i b = row-setting width corridor _ _ links steps ready k demand row demand-read row-read downstream f i (omega (arith, ready .corridorFits .first))
 
     -- and keep what the checker and the converter ask
-    pub step-keeps : fixedRefusal corridor links steps (recordIn links steps words) ≡ Accepted
-        → stepsRefusal corridor (demandsIn links steps demands) links (recordIn links steps words) k ≡ Accepted → (j : ℕ) → j ≤ links → NodeKept corridor demand row j
-    step-keeps fixed before = step-kept corridor _ _ links steps ready k demand row demand-read row-read fixed before h
+    pub step-keeps : fixedRefusal width corridor links steps (recordIn width links steps recorded) ≡ Accepted
+        → stepsRefusal width corridor (demandsIn links steps demands) links (recordIn width links steps recorded) k ≡ Accepted → RowsKept width corridor demand row links
+    step-keeps fixed before =
+        record {
+          corridorFits = ready .corridorFits;
+          demandFits = demand-length links k demands demand d;
+          rowFits = state-length width links k recorded row t;
+          wide = ready .wide;
+          kept = step-kept width corridor _ _ links steps ready k demand row demand-read row-read free refl fixed before h;
+        }
 
-    module _ (accepted : judged (roadOf corridor (demandsIn links steps demands)) (recordIn links steps words) ≡ Accepted) where
-      pub plan-keeps : (j : ℕ) → j ≤ links → NodeKept corridor demand row j
-      plan-keeps = plan-kept corridor _ _ links steps ready k demand row demand-read row-read accepted h
+    module _ (accepted : judged width (roadOf corridor (demandsIn links steps demands)) (recordIn width links steps recorded) ≡ Accepted) where
+      pub plan-keeps : RowsKept width corridor demand row links
+      plan-keeps =
+          record {
+            corridorFits = ready .corridorFits;
+            demandFits = demand-length links k demands demand d;
+            rowFits = state-length width links k recorded row t;
+            wide = ready .wide;
+            kept = plan-kept width corridor _ _ links steps ready k demand row demand-read row-read free refl accepted h;
+          }
 
-      pub plan-sends : (j : ℕ) → j ≤ links → flowsIn row j .main ≤ stateIn row j .vehicles
-      plan-sends = plan-sent corridor _ _ links steps ready k demand row demand-read row-read accepted h
+      pub plan-sends : SentKept width row links
+      plan-sends = plan-sent width corridor _ _ links steps ready k demand row demand-read row-read free refl accepted h

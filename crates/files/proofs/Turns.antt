@@ -12,7 +12,7 @@ use Rattle.tables.specs.Answer.{orElse, left, sized}
 use Rattle.tables.proofs.Answers.{orElse-assoc, orElse-accepts}
 use Rattle.tables.proofs.Grid.{grid-length}
 use Rattle.tables.proofs.Tests.{and-iff}
-use Rattle.lists.specs.Words.{linksOf, stepsOf, roadOf, planLength, recordLength, planWords}
+use Rattle.lists.specs.Words.{linksOf, stepsOf, roadOf, recordWidth, planLength, recordLength, planWords}
 use Rattle.lists.specs.Refusals.{sizes, ranges}
 use Rattle.lists.proofs.Limits.{sized-iff}
 use Rattle.convert.specs.Refusals.{judged}
@@ -41,76 +41,76 @@ module _ (kind : Kind) (n k : ℕ) (file lent : List ℕ) (told : toldFits n k �
   unfolding readAnswer
   read-is = ap₂ (λ (x y : Bool). orElse (sized (x && y)) (fileAnswer kind n k file)) told (eq-eqb _ _ fits)
 
-  words-are : fileAnswer kind n k file ≡ Accepted → wordsRead kind n k file lent ≡ payloadOf (listLength kind n k) file
+  recorded-are : fileAnswer kind n k file ≡ Accepted → wordsRead kind n k file lent ≡ payloadOf (listLength kind n k) file
   unfolding wordsRead
-  words-are h = ap (λ (x : Answer). left x (payloadOf (listLength kind n k) file) lent) (read-is ∙ h)
+  recorded-are h = ap (λ (x : Answer). left x (payloadOf (listLength kind n k) file) lent) (read-is ∙ h)
 
   one-turn : (rest : List ℕ → Answer)
       → orElse (fileAnswer kind n k file) (rest (payloadOf (listLength kind n k) file)) ≡ orElse (readAnswer kind n k file (length lent)) (rest (wordsRead kind n k file lent))
   one-turn rest =
-      second-same _ _ _ (λ h. ap rest (sym (words-are h)))
+      second-same _ _ _ (λ h. ap rest (sym (recorded-are h)))
       ∙ ap (λ (x : Answer). orElse x (rest (wordsRead kind n k file lent))) (sym read-is)
 
 -- ---- all three
 
-module _ (n k : ℕ) (corridor demands words a b c : List ℕ) (told : toldFits n k ≡ true)
+module _ (n k : ℕ) (corridor demands recorded a b c : List ℕ) (told : toldFits n k ≡ true)
     (p : length a ≡ listLength Corridor n k) (q : length b ≡ listLength Demands n k) (r : length c ≡ listLength Record n k) where
   turns : (rest : List ℕ → List ℕ → List ℕ → Answer)
-      → orElse (filesAnswer n k corridor demands words) (rest (corridorIn n corridor) (demandsIn n k demands) (recordIn n k words)) ≡ inTurn n k corridor demands words a b c rest
+      → orElse (filesAnswer n k corridor demands recorded) (rest (corridorIn n corridor) (demandsIn n k demands) (recordIn recordWidth n k recorded)) ≡ inTurn n k corridor demands recorded a b c rest
   unfolding filesAnswer inTurn listLength
   turns rest =
       orElse-assoc (fileAnswer Corridor n k corridor) _ _
       ∙ ap (orElse (fileAnswer Corridor n k corridor))
       (orElse-assoc (fileAnswer Demands n k demands) _ _
-      ∙ ap (orElse (fileAnswer Demands n k demands)) (one-turn Record n k words c told r (λ z. rest (corridorIn n corridor) (demandsIn n k demands) z))
-      ∙ one-turn Demands n k demands b told q (λ y. orElse (readAnswer Record n k words (length c)) (rest (corridorIn n corridor) y (wordsRead Record n k words c))))
+      ∙ ap (orElse (fileAnswer Demands n k demands)) (one-turn Record n k recorded c told r (λ z. rest (corridorIn n corridor) (demandsIn n k demands) z))
+      ∙ one-turn Demands n k demands b told q (λ y. orElse (readAnswer Record n k recorded (length c)) (rest (corridorIn n corridor) y (wordsRead Record n k recorded c))))
       ∙ one-turn Corridor n k corridor a told p
-      (λ x. orElse (readAnswer Demands n k demands (length b)) (orElse (readAnswer Record n k words (length c)) (rest x (wordsRead Demands n k demands b) (wordsRead Record n k words c))))
+      (λ x. orElse (readAnswer Demands n k demands (length b)) (orElse (readAnswer Record n k recorded (length c)) (rest x (wordsRead Demands n k demands b) (wordsRead Record n k recorded c))))
 
   -- the converter's plan of lists with this N and K has the right length for them
-  convert-same : filesAnswer n k corridor demands words ≡ Accepted
-      → checkAnswer (corridorIn n corridor) (demandsIn n k demands) (recordIn n k words)
-      ≡ convertAnswer (corridorIn n corridor) (demandsIn n k demands) (recordIn n k words) (planLength n k)
+  convert-same : filesAnswer n k corridor demands recorded ≡ Accepted
+      → checkAnswer (corridorIn n corridor) (demandsIn n k demands) (recordIn recordWidth n k recorded)
+      ≡ convertAnswer (corridorIn n corridor) (demandsIn n k demands) (recordIn recordWidth n k recorded) (planLength n k)
   unfolding checkAnswer convertAnswer
   convert-same h =
-      let fit = files-fit n k corridor demands words _ (told-is n k _ refl told) refl h in
+      let fit = files-fit n k corridor demands recorded _ (told-is n k _ refl told) refl h in
       let room : eqb (planLength n k) (planLength (linksOf (corridorIn n corridor)) (stepsOf (demandsIn n k demands))) ≡ true =
-      eq-eqb _ _ (ap₂ planLength (sym (own-links n k corridor demands words fit)) (sym (own-steps n k corridor demands words fit))) in
-      ap (λ (t : Bool). orElse (sized t) (orElse (ranges (roadOf (corridorIn n corridor) (demandsIn n k demands))) (judged (roadOf (corridorIn n corridor) (demandsIn n k demands)) (recordIn n k words))))
+      eq-eqb _ _ (ap₂ planLength (sym (own-links n k corridor demands recorded fit)) (sym (own-steps n k corridor demands recorded fit))) in
+      ap (λ (t : Bool). orElse (sized t) (orElse (ranges (roadOf (corridorIn n corridor) (demandsIn n k demands))) (judged recordWidth (roadOf (corridorIn n corridor) (demandsIn n k demands)) (recordIn recordWidth n k recorded))))
       (and-last (sizes (corridorIn n corridor) (demandsIn n k demands))
-      (eqb (length (recordIn n k words)) (recordLength (linksOf (corridorIn n corridor)) (stepsOf (demandsIn n k demands)))) _ room)
+      (eqb (length (recordIn recordWidth n k recorded)) (recordLength recordWidth (linksOf (corridorIn n corridor)) (stepsOf (demandsIn n k demands)))) _ room)
     where
       and-last : (s t u : Bool) → u ≡ true → s && t ≡ s && (t && u)
       and-last true true u e = sym e
       and-last true false u e = refl
       and-last false t u e = refl
 
-  plan-count : FilesFit n k corridor demands words → length (converted (corridorIn n corridor) (demandsIn n k demands) (recordIn n k words)) ≡ planLength n k
+  plan-count : FilesFit n k corridor demands recorded → length (converted (corridorIn n corridor) (demandsIn n k demands) (recordIn recordWidth n k recorded)) ≡ planLength n k
   unfolding converted planWords roadOf
   plan-count fit =
       grid-length 2 _ _ _
-      ∙ ap₂ planLength (own-links n k corridor demands words fit) (own-steps n k corridor demands words fit)
+      ∙ ap₂ planLength (own-links n k corridor demands recorded fit) (own-steps n k corridor demands recorded fit)
 
   -- the writer takes that plan, into a file of the right length
-  plan-taken : (room : ℕ) → FilesFit n k corridor demands words → eqb room (blocksFor (planLength n k) * 512) ≡ true
-      → writeAnswer Plan n k (converted (corridorIn n corridor) (demandsIn n k demands) (recordIn n k words)) room ≡ Accepted
+  plan-taken : (room : ℕ) → FilesFit n k corridor demands recorded → eqb room (blocksFor (planLength n k) * 512) ≡ true
+      → writeAnswer Plan n k (converted (corridorIn n corridor) (demandsIn n k demands) (recordIn recordWidth n k recorded)) room ≡ Accepted
   unfolding writeAnswer listLength ownAgrees
   plan-taken room fit h =
       ap sized (and-iff _ _ .1 (told, and-iff _ _ .1 (h, and-iff _ _ .1 (eq-eqb _ _ (plan-count fit), refl))))
 
-  written : (lent : List ℕ) → filesAnswer n k corridor demands words ≡ Accepted → eqb (length lent) (blocksFor (planLength n k) * 512) ≡ true
-      → planFile n k corridor demands words
-      ≡ fileWritten Plan n k (converted (wordsRead Corridor n k corridor a) (wordsRead Demands n k demands b) (wordsRead Record n k words c)) lent
+  written : (lent : List ℕ) → filesAnswer n k corridor demands recorded ≡ Accepted → eqb (length lent) (blocksFor (planLength n k) * 512) ≡ true
+      → planFile n k corridor demands recorded
+      ≡ fileWritten Plan n k (converted (wordsRead Corridor n k corridor a) (wordsRead Demands n k demands b) (wordsRead Record n k recorded c)) lent
   unfolding filesAnswer planFile fileWritten listLength
   written lent h room =
-      let fit = files-fit n k corridor demands words _ (told-is n k _ refl told) refl h in
+      let fit = files-fit n k corridor demands recorded _ (told-is n k _ refl told) refl h in
       let first = orElse-accepts (fileAnswer Corridor n k corridor) _ .0 h in
-      let rest = orElse-accepts (fileAnswer Demands n k demands) (fileAnswer Record n k words) .0 (first .1) in
-      let plan : List ℕ = converted (corridorIn n corridor) (demandsIn n k demands) (recordIn n k words) in
-      let same : converted (wordsRead Corridor n k corridor a) (wordsRead Demands n k demands b) (wordsRead Record n k words c) ≡ plan =
+      let rest = orElse-accepts (fileAnswer Demands n k demands) (fileAnswer Record n k recorded) .0 (first .1) in
+      let plan : List ℕ = converted (corridorIn n corridor) (demandsIn n k demands) (recordIn recordWidth n k recorded) in
+      let same : converted (wordsRead Corridor n k corridor a) (wordsRead Demands n k demands b) (wordsRead Record n k recorded c) ≡ plan =
       λ z.
-      converted (words-are Corridor n k corridor a told p (first .0) z) (words-are Demands n k demands b told q (rest .0) z)
-      (words-are Record n k words c told r (rest .1) z) in
+      converted (recorded-are Corridor n k corridor a told p (first .0) z) (recorded-are Demands n k demands b told q (rest .0) z)
+      (recorded-are Record n k recorded c told r (rest .1) z) in
       sym (ap (λ (x : Answer). left x (fileOf (kindNumber Plan) plan) lent) (plan-taken (length lent) fit room))
       ∙ ap (λ (x : List ℕ). fileWritten Plan n k x lent) (sym same)
 
@@ -119,21 +119,21 @@ sized-same : (t : Bool) (x y : Answer) → (t ≡ true → x ≡ y) → orElse (
 sized-same true x y h = h refl
 sized-same false x y h = refl
 
-pub as-lists : (n k : ℕ) (corridor demands words a b c : List ℕ) → length a ≡ listLength Corridor n k → length b ≡ listLength Demands n k → length c ≡ listLength Record n k
-    → Turns n k corridor demands words a b c
+pub as-lists : (n k : ℕ) (corridor demands recorded a b c : List ℕ) → length a ≡ listLength Corridor n k → length b ≡ listLength Demands n k → length c ≡ listLength Record n k
+    → Turns n k corridor demands recorded a b c
 unfolding checkFiles convertFiles readThenCheck planWritten
-as-lists n k corridor demands words a b c p q r =
+as-lists n k corridor demands recorded a b c p q r =
     record {
-      checks = sized-same (toldFits n k) _ _ (λ t. turns n k corridor demands words a b c t p q r checkAnswer);
+      checks = sized-same (toldFits n k) _ _ (λ t. turns n k corridor demands recorded a b c t p q r checkAnswer);
       converts = λ room.
           sized-same (toldFits n k && eqb room (blocksFor (planLength n k) * 512)) _ _
           (λ t.
           let told = and-iff (toldFits n k) _ .0 t .0 in
-          second-same (filesAnswer n k corridor demands words) _ _ (convert-same n k corridor demands words a b c told p q r)
-          ∙ turns n k corridor demands words a b c told p q r (λ x y z. convertAnswer x y z (planLength n k)));
+          second-same (filesAnswer n k corridor demands recorded) _ _ (convert-same n k corridor demands recorded a b c told p q r)
+          ∙ turns n k corridor demands recorded a b c told p q r (λ x y z. convertAnswer x y z (planLength n k)));
       writes = λ lent h.
           let told = orElse-accepts (sized (toldFits n k && eqb (length lent) (blocksFor (planLength n k) * 512))) _ .0 h in
           let good = and-iff (toldFits n k) _ .0 (sized-iff _ .0 (told .0)) in
-          ap (λ (x : Answer). left x (planFile n k corridor demands words) lent) h
-          ∙ written n k corridor demands words a b c (good .0) p q r lent (orElse-accepts (filesAnswer n k corridor demands words) _ .0 (told .1) .0) (good .1);
+          ap (λ (x : Answer). left x (planFile n k corridor demands recorded) lent) h
+          ∙ written n k corridor demands recorded a b c (good .0) p q r lent (orElse-accepts (filesAnswer n k corridor demands recorded) _ .0 (told .1) .0) (good .1);
     }

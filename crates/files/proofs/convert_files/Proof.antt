@@ -1,46 +1,51 @@
 -- N, K and the room decide, then the files and the words in them; the plan file is written where they are accepted.
 use borrow.Author.Needs.{needs}
-use Rattle.files.proofs.Answers.{room-told, accepts, convert-wrong, convert-left, convert-right}
+use Rattle.tables.proofs.Answers.{told-refused, told-accepted}
+use Rattle.files.proofs.Answers.{accepts, convert-wrong, convert-told, convert-left, convert-right}
 use Rattle.files.proofs.convert_files.Statement.{statement}
 use Rattle.files.proofs.convert_files.Tie as tie
 
-read-then-check-requires : tie.Need-read-then-check-requires
-read-then-check-requires c κs = room-told _ _ _ _ (c .before .room-fits .ensures) (c .if1 .taken) .0
-
 returns : tie.Need-returns
 returns c =
-    let r = c .before .before in
-    let i = r .before in
-    convert-left _ _ _ _ _ _ _ (i .before .room-fits .ensures) (i .if1 .taken) _ (r .read-then-check .ensures) _ _ _ (c .enum-told .given .1)
+    convert-wrong _ _ _ _ _ _ _ (c .before .before .before .room-fits .ensures) _ (c .before .before .sized .ensures) (told-refused (c .before .before .sized .result) _ (c .before .is-refused .ensures) (c .if1 .taken))
 
-write-plan-requires : tie.Need-write-plan-requires
-write-plan-requires c κs =
-    let r = c .before .before .before in
-    let i = r .before in
-    let told = room-told _ _ _ _ (i .before .room-fits .ensures) (i .if1 .taken) in
-    let x = accepts _ _ _ _ _ _ (told .0) (r .read-then-check .ensures) (c .before .enum-told2 .given .1) in
-    (x .0, (x .1, told .1))
+read-then-check-requires : tie.Need-read-then-check-requires
+read-then-check-requires c κs =
+    let k = c .before .before .before .before .before .before .before .before in
+    convert-told _ _ (k .args .corridor .now) (k .args .demands .now) (k .args .recorded .now) (k .args .plan .now) _ (c .before .before .before .room-fits .ensures) _ (c .before .before .sized .ensures)
+    (told-accepted (c .before .before .sized .result) _ (c .before .is-refused .ensures) (c .if1 .left)) .0
 
 returns-2 : tie.Need-returns-2
 returns-2 c =
-    let w = c .before .before in
-    let r = w .before .before .before .before in
-    let i = r .before in
-    convert-right _ _ _ _ _ _ _ (i .before .room-fits .ensures) (i .if1 .taken) _ (r .read-then-check .ensures) (w .before .before .enum-told2 .given .1) _ (w .write-plan .ensures)
+    let g = told-accepted (c .before .before .before .before .before .sized .result) _ (c .before .before .before .before .is-refused .ensures) (c .before .before .before .if1 .left) in
+    convert-left _ _ _ _ _ _ _ (c .before .before .before .before .before .before .room-fits .ensures) _ (c .before .before .before .before .before .sized .ensures) g _ (c .before .before .read-then-check .ensures)
+    (told-refused (c .before .before .read-then-check .result) _ (c .before .is-refused2 .ensures) (c .if2 .taken))
+
+write-plan-requires : tie.Need-write-plan-requires
+write-plan-requires c κs =
+    let k = c .before .before .before .before .before .before .before .before .before .before .before .before in
+    let g = told-accepted (c .before .before .before .before .before .before .sized .result) _ (c .before .before .before .before .before .is-refused .ensures) (c .before .before .before .before .if1 .left) in
+    let told = convert-told _ _ (k .args .corridor .now) (k .args .demands .now) (k .args .recorded .now) (k .args .plan .now) _ (c .before .before .before .before .before .before .before .room-fits .ensures) _ (c .before .before .before .before .before .before .sized .ensures) g in
+    let x = accepts _ _ _ _ _ _ (told .0) (c .before .before .before .read-then-check .ensures) (told-accepted (c .before .before .before .read-then-check .result) _ (c .before .before .is-refused2 .ensures) (c .before .if2 .left)) in
+    (x .0, (x .1, told .1))
 
 returns-3 : tie.Need-returns-3
-returns-3 c = convert-wrong _ _ _ _ _ _ _ (c .before .room-fits .ensures) (c .if1 .left)
+returns-3 c =
+    let g = told-accepted (c .before .before .before .before .before .before .before .before .before .sized .result) _ (c .before .before .before .before .before .before .before .before .is-refused .ensures) (c .before .before .before .before .before .before .before .if1 .left) in
+    convert-right _ _ _ _ _ _ _ (c .before .before .before .before .before .before .before .before .before .before .room-fits .ensures) _ (c .before .before .before .before .before .before .before .before .before .sized .ensures) g _ (c .before .before .before .before .before .before .read-then-check .ensures)
+    (told-accepted (c .before .before .before .before .before .before .read-then-check .result) _ (c .before .before .before .before .before .is-refused2 .ensures) (c .before .before .before .before .if2 .left)) _ (c .before .before .write-plan .ensures)
 
 pub convert-files-spec : {M : Type 1} → statement M
 convert-files-spec =
     tie.close
     (tie.spec
     (λ c κs. search needs)
-    read-then-check-requires
-    (λ c. search needs)
+    (λ c κs. search needs)
+    (λ c κs. search needs)
     returns
-    (λ c. search needs)
+    read-then-check-requires
+    (λ c κs. search needs)
+    returns-2
     write-plan-requires
     (λ c. search needs)
-    returns-2
     returns-3)

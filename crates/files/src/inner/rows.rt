@@ -16,13 +16,7 @@ use lists::inner::words;
 use tables::Answer;
 
 // The first node of step k with refusal 5.
-pub fn demand_at(
-    corridor: &[u32],
-    links: usize,
-    steps: usize,
-    demands: &[u8],
-    k: usize,
-) -> Answer
+pub fn demand_at(corridor: &[u32], links: usize, steps: usize, demands: &[u8], k: usize) -> Answer
     requires { ⌜ CorridorFits (now corridor) links ⌝ }
     requires { ⌜ (steps ≤ 1440) × (k < steps) × Holds (demandsLength links steps) (now demands) ⌝ }
     ensures { λ r. ⌜ r ≡ firstNode (suc links) k (nodeFaultAt Demand (now (corridor .entry)) links 1 (demandsIn links steps (now (demands .entry))) k) ⌝ }
@@ -35,13 +29,7 @@ pub fn demand_at(
 }
 
 // The first node of state k with refusal 7.
-pub fn fixed_at(
-    corridor: &[u32],
-    links: usize,
-    steps: usize,
-    recorded: &[u8],
-    k: usize,
-) -> Answer
+pub fn fixed_at(corridor: &[u32], links: usize, steps: usize, recorded: &[u8], k: usize) -> Answer
     requires { ⌜ CorridorFits (now corridor) links ⌝ }
     requires { ⌜ (steps ≤ 1440) × (k ≤ steps) × Holds (recordLength recordWidth links steps) (now recorded) ⌝ }
     ensures { λ r. ⌜ r ≡ fixedRowRefusal recordWidth (now (corridor .entry)) links steps (recordIn recordWidth links steps (now (recorded .entry))) k ⌝ }

@@ -1,6 +1,7 @@
 -- The corridor's words are unpacked, then checked.
 use borrow.Author.Needs.{needs}
-use Rattle.files.proofs.Contents.{list-corridor, list-demands, list-ready, contents-stop, contents-next}
+use Rattle.tables.proofs.Answers.{told-refused, told-accepted}
+use Rattle.files.proofs.Contents.{list-corridor, list-demands, list-files, contents-stop, contents-next}
 use Rattle.files.proofs.inner.answers.contents.Statement.{statement}
 use Rattle.files.proofs.inner.answers.contents.Tie as tie
 
@@ -11,29 +12,26 @@ ranges-requires c κs =
     let fit = k .pre .0 in
     (list-corridor _ _ _ _ _ fit _ _ (u .unpack .ensures) (k .pre .1), (list-demands _ _ _ _ _ fit _ _ (u .unpack .ensures) (k .pre .1), fit .demandsHold))
 
-judged-requires : tie.Need-judged-requires
-judged-requires c κs =
-    let r = c .before .before .before in
-    let u = r .before .before .before .before in
-    let k = u .before .before .before .before .before .before in
-    let fit = k .pre .0 in (
-      list-ready _ _ _ _ _ fit _ _ (u .unpack .ensures) (k .pre .1) _ (r .ranges .ensures) (c .before .enum-told2 .given .1),
-      (fit .demandsHold, fit .recordHolds),
-    )
-
 returns : tie.Need-returns
 returns c =
-    let r = c .before .before in
-    let u = r .before .before .before .before in
+    let u = c .before .before .before .before .before .before in
     let k = u .before .before .before .before .before .before in
-    contents-stop _ _ _ _ _ (k .pre .0) _ _ (u .unpack .ensures) (k .pre .1) _ _ _ _ (r .ranges .ensures) (c .enum-told .given .1)
+    contents-stop _ _ _ _ _ (k .pre .0) _ _ (u .unpack .ensures) (k .pre .1) _ (c .before .before .ranges .ensures)
+    (told-refused (c .before .before .ranges .result) _ (c .before .is-refused .ensures) (c .if1 .taken))
+
+judged-requires : tie.Need-judged-requires
+judged-requires c κs =
+    let u = c .before .before .before .before .before .before .before in
+    let k = u .before .before .before .before .before .before in
+    list-files _ _ _ _ _ (k .pre .0) _ _ (u .unpack .ensures) (k .pre .1) _ (c .before .before .before .ranges .ensures)
+    (told-accepted (c .before .before .before .ranges .result) _ (c .before .before .is-refused .ensures) (c .before .if1 .left))
 
 returns-2 : tie.Need-returns-2
 returns-2 c =
-    let r = c .before .before .before .before in
-    let u = r .before .before .before .before in
+    let u = c .before .before .before .before .before .before .before .before in
     let k = u .before .before .before .before .before .before in
-    contents-next _ _ _ _ _ (k .pre .0) _ _ (u .unpack .ensures) (k .pre .1) _ _ (r .ranges .ensures) (c .before .before .enum-told2 .given .1) (c .judged .ensures)
+    contents-next _ _ _ _ _ (k .pre .0) _ _ (u .unpack .ensures) (k .pre .1) _ _ (c .before .before .before .before .ranges .ensures)
+    (told-accepted (c .before .before .before .before .ranges .result) _ (c .before .before .before .is-refused .ensures) (c .before .before .if1 .left)) (c .judged .ensures)
 
 pub contents-spec : {M : Type 1} → statement M
 contents-spec =
@@ -41,10 +39,9 @@ contents-spec =
     (tie.spec
     (λ c κs. search needs)
     ranges-requires
-    (λ c. search needs)
+    (λ c κs. search needs)
     (λ c. search needs)
     returns
-    (λ c. search needs)
     judged-requires
     (λ c. search needs)
     returns-2)

@@ -1,5 +1,6 @@
 -- The first file that is refused decides.
 use borrow.Author.Needs.{needs}
+use Rattle.tables.proofs.Answers.{told-refused, told-accepted}
 use Rattle.files.proofs.Answers.{files-first, files-second, files-third}
 use Rattle.files.proofs.inner.answers.files_answer.Statement.{statement}
 use Rattle.files.proofs.inner.answers.files_answer.Tie as tie
@@ -9,12 +10,10 @@ files-answer-spec =
     tie.close
     (tie.spec
     (λ c κs. search needs)
-    (λ c. search needs)
-    (λ c. search files-first)
-    (λ c. search needs)
     (λ c κs. search needs)
-    (λ c. search needs)
-    (λ c. search files-second)
-    (λ c. search needs)
+    (λ c. search (files-first, told-refused))
     (λ c κs. search needs)
-    (λ c. search files-third))
+    (λ c κs. search needs)
+    (λ c. search (files-second, told-refused, told-accepted))
+    (λ c κs. search needs)
+    (λ c. search (files-third, told-accepted)))

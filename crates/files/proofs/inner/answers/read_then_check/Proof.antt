@@ -2,30 +2,30 @@
 use native.Mathlib.Omega.{arith}
 use lib.ListN.{length-take}
 use borrow.Author.Needs.{needs}
+use Rattle.tables.proofs.Answers.{told-refused, told-accepted}
 use Rattle.files.proofs.Answers.{files-fit, read-stop, read-next}
 use Rattle.files.proofs.inner.answers.read_then_check.Statement.{statement}
 use Rattle.files.proofs.inner.answers.read_then_check.Tie as tie
 
 contents-requires : tie.Need-contents-requires
 contents-requires c κs =
-    let f = c .before .before .before in
-    let k = f .before .before .before .before in
-    (files-fit _ _ _ _ _ _ (k .pre) (f .files-answer .ensures) (c .before .enum-told2 .given .1), simp length-take (omega (arith, k .pre .linksHigh)))
+    let k = c .before .before .before .before .before .before .before in
+    let h = told-accepted (c .before .before .before .files-answer .result) _ (c .before .before .is-refused .ensures) (c .before .if1 .left) in
+    (files-fit _ _ _ _ _ _ (k .pre) (c .before .before .before .files-answer .ensures) h, simp length-take (omega (arith, k .pre .linksHigh)))
 
 returns-2 : tie.Need-returns-2
 returns-2 c =
-    let f = c .before .before .before .before .before in
-    let k = f .before .before .before .before in
-    read-next _ _ _ _ _ _ (f .files-answer .ensures) (c .before .before .before .enum-told2 .given .1) (k .pre) _ (c .before .contents .ensures)
+    let k = c .before .before .before .before .before .before .before .before .before in
+    let h = told-accepted (c .before .before .before .before .before .files-answer .result) _ (c .before .before .before .before .is-refused .ensures) (c .before .before .before .if1 .left) in
+    read-next _ _ _ _ _ _ (c .before .before .before .before .before .files-answer .ensures) h (k .pre) _ (c .before .contents .ensures)
 
 pub read-then-check-spec : {M : Type 1} → statement M
 read-then-check-spec =
     tie.close
     (tie.spec
     (λ c κs. search needs)
-    (λ c. search needs)
-    (λ c. search read-stop)
-    (λ c. search needs)
+    (λ c κs. search needs)
+    (λ c. search (read-stop, told-refused))
     (λ c. search needs)
     (λ c. search needs)
     (λ c. search needs)

@@ -2,29 +2,27 @@
 use native.Mathlib.Omega.{arith}
 use lib.ListN.{length-take}
 use borrow.Author.Needs.{needs}
-use Rattle.files.proofs.Rows.{row-length, cost-found}
+use Rattle.files.proofs.Rows.{state-length, cost-found}
+use Rattle.files.proofs.Plans.{record-wide}
 use Rattle.files.proofs.inner.rows.cost_at.Statement.{statement}
 use Rattle.files.proofs.inner.rows.cost_at.Tie as tie
 
 row-cost-requires : tie.Need-row-cost-requires
-row-cost-requires c κs =
-    let u = c .before .before .before in
-    (row-length 4 _ _ _ _ (u .state-words .ensures), omega arith)
+row-cost-requires c κs = (state-length _ _ _ _ _ (c .before .before .before .state-row .ensures), record-wide, c .before .before .before .before .before .before .before .before .pre .0)
 
 returns : tie.Need-returns
 returns c =
     let e = c .before .row-cost .ensures in
-    (cost-found _ _ _ _ _ (c .before .before .before .before .before .state-words .ensures) (omega arith) _ (e .0), e .1)
+    (cost-found _ record-wide _ _ _ _ _ (c .before .before .before .before .before .state-row .ensures) (c .before .before .before .before .before .before .before .before .before .before .pre .2) _ (e .0), e .1)
 
 pub cost-at-spec : {M : Type 1} → statement M
 cost-at-spec =
     tie.close
     (tie.spec
-    (λ c. search needs)
-    (λ c. search needs)
+    (λ c κs. search needs)
     (λ c. search needs)
     (λ c. simp length-take (omega arith))
     (λ c. search needs)
-    (λ c κs. (search needs, simp length-take (omega arith)))
+    (λ c κs. (search needs, simp length-take (omega (arith, c .before .before .state-words .ensures))))
     row-cost-requires
     returns)

@@ -2,17 +2,18 @@
 use native.Mathlib.Omega.{arith}
 use lib.ListN.{length-take}
 use borrow.Author.Needs.{needs}
-use Rattle.files.proofs.Rows.{row-length, demand-found}
+use Rattle.lists.proofs.Scans.{row-for}
+use Rattle.files.proofs.Rows.{demand-length, demand-found}
 use Rattle.files.proofs.inner.rows.demand_at.Statement.{statement}
 use Rattle.files.proofs.inner.rows.demand_at.Tie as tie
 
-demand-row-requires : tie.Need-demand-row-requires
-demand-row-requires c κs =
-    let u = c .before .before .before in
-    (omega arith, omega arith, row-length 2 _ _ _ _ (u .demand-words .ensures))
+scan-nodes-requires : tie.Need-scan-nodes-requires
+scan-nodes-requires c κs =
+    let k = c .before .before .before .before .before .before .before .before in
+    (k .pre .0, (omega (arith, k .pre .1), row-for _ _ _ (demand-length _ _ _ _ (c .before .before .before .demand-row .ensures))))
 
 returns : tie.Need-returns
-returns c = demand-found _ _ _ _ _ (c .before .before .before .before .before .demand-words .ensures) (omega arith) _ (c .before .demand-row .ensures)
+returns c = demand-found _ _ _ _ _ (c .before .before .before .before .before .demand-row .ensures) (c .before .before .before .before .before .before .before .before .before .before .pre .1 .1) _ _ _ (c .before .scan-nodes .ensures)
 
 pub demand-at-spec : {M : Type 1} → statement M
 demand-at-spec =
@@ -23,5 +24,5 @@ demand-at-spec =
     (λ c. search needs)
     (λ c. simp length-take (omega arith))
     (λ c κs. (search needs, simp length-take (omega arith)))
-    demand-row-requires
+    scan-nodes-requires
     returns)

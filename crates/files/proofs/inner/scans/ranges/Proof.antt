@@ -1,5 +1,6 @@
 -- The corridor decides, then the demands.
 use borrow.Author.Needs.{needs}
+use Rattle.tables.proofs.Answers.{told-refused, told-accepted}
 use Rattle.lists.proofs.Scans.{ranges-stop, ranges-next}
 use Rattle.files.proofs.inner.scans.ranges.Statement.{statement}
 use Rattle.files.proofs.inner.scans.ranges.Tie as tie
@@ -9,8 +10,7 @@ ranges-spec =
     tie.close
     (tie.spec
     (λ c κs. search needs)
-    (λ c. search needs)
-    (λ c. search ranges-stop)
-    (λ c. search needs)
     (λ c κs. search needs)
-    (λ c. search ranges-next))
+    (λ c. search (ranges-stop, told-refused))
+    (λ c κs. search needs)
+    (λ c. search (ranges-next, told-accepted)))

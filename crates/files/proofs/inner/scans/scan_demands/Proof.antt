@@ -4,16 +4,17 @@ use borrow.Author.Needs.{needs}
 use Rattle.tables.specs.First.{firstNode}
 use Rattle.tables.proofs.First.{Passed}
 use Rattle.tables.proofs.Sets.{scans}
-use Rattle.lists.specs.Scans.{demandFaultAt}
+use Rattle.lists.specs.declared.inner.scans.NodeTest.the-variants.{Demand}
+use Rattle.lists.specs.Scans.{nodeFaultAt}
 use Rattle.files.specs.Files.{demandsIn}
 use Rattle.files.proofs.inner.scans.scan_demands.Statement.{statement}
 use Rattle.files.proofs.inner.scans.scan_demands.Tie as tie
 
 abbrev Inv-loop : tie.InvT-loop
-Inv-loop links steps demands k₀ k = Passed k steps (λ j. firstNode (suc links) j (demandFaultAt (demandsIn links steps demands) links j))
+Inv-loop corridor links steps demands k₀ k = Passed k steps (λ j. firstNode (suc links) j (nodeFaultAt Demand corridor links 1 (demandsIn links steps demands) j))
 
 abbrev μ-loop : tie.MeasureT-loop
-μ-loop links steps demands k₀ k = steps - k
+μ-loop corridor links steps demands k₀ k = steps - k
 
 pub scan-demands-spec : {M : Type 1} → statement M
 scan-demands-spec =
@@ -23,9 +24,8 @@ scan-demands-spec =
     μ-loop
     (λ c. search scans)
     (λ c κs. search needs)
-    (λ c. search needs)
+    (λ c κs. search needs)
     (λ c. search scans)
-    (λ c. search needs)
     (λ c. search needs)
     (λ c. search needs)
     (λ c. search scans)

@@ -1,24 +1,21 @@
 -- No state before k has a fault.
-use Prim.Native.Nat.{suc, _-_}
+use Prim.Native.Nat.{_-_}
 use native.Mathlib.Omega.{arith}
 use borrow.Author.Needs.{needs}
-use Rattle.tables.specs.First.{firstNode}
 use Rattle.tables.proofs.First.{Passed}
 use Rattle.tables.proofs.Sets.{scans}
-use Rattle.lists.specs.Words.{traceOf}
+use Rattle.lists.specs.Words.{recordWidth}
 use Rattle.lists.proofs.Scans.{nodes-stop, nodes-ended}
-use Rattle.convert.specs.Refusals.{fixedAt}
-use Rattle.convert.specs.Rows.{bareRoad}
+use Rattle.convert.specs.Rows.{fixedRowRefusal}
 use Rattle.files.specs.Files.{recordIn}
 use Rattle.files.proofs.inner.scans.scan_fixed.Statement.{statement}
 use Rattle.files.proofs.inner.scans.scan_fixed.Tie as tie
 
 abbrev Inv-loop : tie.InvT-loop
-Inv-loop corridor links steps words states k₀ k =
-    Passed k states (λ j. firstNode (suc links) j (fixedAt (bareRoad corridor links steps) (traceOf (bareRoad corridor links steps) (recordIn links steps words)) j))
+Inv-loop corridor links steps recorded states k₀ k = Passed k states (fixedRowRefusal recordWidth corridor links steps (recordIn recordWidth links steps recorded))
 
 abbrev μ-loop : tie.MeasureT-loop
-μ-loop corridor links steps words states k₀ k = states - k
+μ-loop corridor links steps recorded states k₀ k = states - k
 
 pub scan-fixed-spec : {M : Type 1} → statement M
 scan-fixed-spec =
@@ -29,9 +26,8 @@ scan-fixed-spec =
     (λ c. search needs)
     (λ c. search scans)
     (λ c κs. (search needs, (omega arith, omega arith, search needs)))
-    (λ c. search needs)
+    (λ c κs. search needs)
     (λ c. search (scans, nodes-stop))
-    (λ c. search needs)
     (λ c. search needs)
     (λ c. search needs)
     (λ c. search scans)

@@ -1,29 +1,27 @@
 -- No step before k has a fault.
-use Prim.Native.Nat.{suc, _-_}
+use Prim.Native.Nat.{_-_}
 use native.Mathlib.Omega.{arith}
 use borrow.Author.Needs.{needs}
-use Rattle.tables.specs.First.{firstNode}
 use Rattle.tables.proofs.First.{Passed}
 use Rattle.tables.proofs.Sets.{scans}
-use Rattle.lists.specs.Words.{roadOf, traceOf}
-use Rattle.convert.specs.Refusals.{stepAt}
+use Rattle.lists.specs.Words.{recordWidth}
+use Rattle.convert.specs.Rows.{stepRefusal}
 use Rattle.files.specs.Files.{demandsIn, recordIn}
 use Rattle.files.proofs.inner.scans.scan_steps.Statement.{statement}
 use Rattle.files.proofs.inner.scans.scan_steps.Tie as tie
 
 abbrev Inv-loop : tie.InvT-loop
-Inv-loop corridor demands links steps words k₀ k =
-    Passed k steps
-    (λ j. firstNode (suc links) j (stepAt (roadOf corridor (demandsIn links steps demands)) (traceOf (roadOf corridor (demandsIn links steps demands)) (recordIn links steps words)) j))
+Inv-loop corridor demands links steps recorded k₀ k =
+    Passed k steps (stepRefusal recordWidth corridor (demandsIn links steps demands) links (recordIn recordWidth links steps recorded))
 
 abbrev μ-loop : tie.MeasureT-loop
-μ-loop corridor demands links steps words k₀ k = steps - k
+μ-loop corridor demands links steps recorded k₀ k = steps - k
 
 step-at-requires : tie.Need-step-at-requires Inv-loop μ-loop
 step-at-requires c κs =
     let l = c .before in
     let k = l .before .before .before .before in
-    (k .pre .0, (k .pre .1 .0, (k .pre .1 .1, (l .loop .inv .is, omega arith))))
+    (k .pre .0, (k .pre .1, (l .loop .inv .is, omega arith)))
 
 pub scan-steps-spec : {M : Type 1} → statement M
 scan-steps-spec =
@@ -33,9 +31,8 @@ scan-steps-spec =
     μ-loop
     (λ c. search scans)
     step-at-requires
-    (λ c. search needs)
+    (λ c κs. search needs)
     (λ c. search scans)
-    (λ c. search needs)
     (λ c. search needs)
     (λ c. search needs)
     (λ c. search scans)

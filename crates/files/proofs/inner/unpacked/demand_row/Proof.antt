@@ -2,8 +2,8 @@
 use native.Mathlib.Omega.{arith}
 use borrow.Author.Needs.{needs}
 use Rattle.files.proofs.Rows.{unpacked}
-use Rattle.files.proofs.inner.unpacked.demand_words.Statement.{statement}
-use Rattle.files.proofs.inner.unpacked.demand_words.Tie as tie
+use Rattle.files.proofs.inner.unpacked.demand_row.Statement.{statement}
+use Rattle.files.proofs.inner.unpacked.demand_row.Tie as tie
 
 returns : tie.Need-returns
 returns c =
@@ -11,7 +11,7 @@ returns c =
     let r = u .before .before .row-at .ensures in
     unpacked _ _ _ _ _ _ (u .unpack .ensures) (omega arith) (omega arith)
 
-pub demand-words-spec : {M : Type 1} → statement M
-demand-words-spec =
+pub demand-row-spec : {M : Type 1} → statement M
+demand-row-spec =
     tie.close
     (tie.spec (λ c. search needs) (λ c. search needs) (λ c κs. search needs) (λ c. search needs) (λ c κs. search needs) (λ c. search needs) returns)
