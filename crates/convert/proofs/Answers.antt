@@ -20,6 +20,7 @@ use Rattle.lists.specs.Fits.{CorridorFits}
 use Rattle.lists.specs.Refusals.{sizes, ranges}
 use Rattle.lists.proofs.Limits.{Sizes, sizes-iff, sized-iff, sized-refuses, ranges-iff}
 use Rattle.lists.proofs.Sizes.{corridor-fits, demands-fit}
+use Rattle.lists.proofs.Words.{record-wide}
 use Rattle.simulate.specs.Rows.{rowCost}
 use Rattle.convert.specs.Refusals.{costFault, judged}
 use Rattle.convert.specs.Convert.{checkAnswer, convertAnswer}
@@ -107,7 +108,7 @@ ready corridor demands words a s l e h =
       corridorFits = corridor-fits corridor demands (linksOf corridor) s refl;
       demandsFit = demands-fit corridor demands (linksOf corridor) (stepsOf demands) s refl refl;
       recordFits = l;
-      wide = record { least = omega arith; most = omega arith };
+      wide = record-wide;
       limits = ranges-iff (roadOf corridor demands) (z .links) (z .steps) .0 (sym e ∙ h);
     }
 

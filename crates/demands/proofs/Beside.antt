@@ -19,11 +19,11 @@ use Rattle.road.proofs.Runs.{link-tops, run-jam}
 use Rattle.road.proofs.Same.{SameTraces, cost-same}
 use Rattle.road.proofs.Sizes.{run-state-fits, run-cost}
 use Rattle.settings.proofs.Settings.{named-once}
-use Rattle.lists.specs.Words.{linksOf, stepsOf, roadOf, planOf, planLength, traceOf, recordLength}
+use Rattle.lists.specs.Words.{linksOf, stepsOf, roadOf, planOf, planLength, traceOf, recordLength, recordWidth}
 use Rattle.lists.specs.Refusals.{bounds, limits}
 use Rattle.faults.proofs.Tests.{eq-holds}
 use Rattle.lists.proofs.Limits.{sized-iff, bounds-iff}
-use Rattle.lists.proofs.Words.{plan-same, plan-written, record-read}
+use Rattle.lists.proofs.Words.{record-wide, plan-same, plan-written, record-read}
 use Rattle.lists.proofs.Fits.{record-fits}
 use Rattle.simulate.specs.Simulate.{simulateAnswer, simulated}
 use Rattle.convert.specs.Refusals.{judged}
@@ -47,7 +47,7 @@ module _ (corridor demands : List ℕ) (within : limits corridor demands ≡ Acc
         λ b. r .1 (λ k i hk hi. record { rate = b k i hk hi .rate; limit = b k i hk hi .limit }),
       )
 
-  simulated-iff : (plan lent : List ℕ) → length lent ≡ recordLength (linksOf corridor) (stepsOf demands)
+  simulated-iff : (plan lent : List ℕ) → length lent ≡ recordLength recordWidth (linksOf corridor) (stepsOf demands)
       → (simulateAnswer corridor demands plan (length lent) ≡ Accepted)
       ↔ ((length plan ≡ planLength (linksOf corridor) (stepsOf demands)) × (bounds (roadOf corridor demands) (planOf (roadOf corridor demands) plan) ≡ Accepted))
   simulated-iff plan lent e =
@@ -71,12 +71,12 @@ module _ (corridor demands : List ℕ) (within : limits corridor demands ≡ Acc
   -- ---- normal forms
 
   only-12 : (plan : List ℕ) → bounds (roadOf corridor demands) (planOf (roadOf corridor demands) plan) ≡ Accepted
-      → judged (roadOf corridor demands) (simulated corridor demands plan)
+      → judged recordWidth (roadOf corridor demands) (simulated corridor demands plan)
       ≡ firstPlace (stepsOf demands) (suc (linksOf corridor)) (λ k i. queueFault (queueLimitAt corridor demands i) (queueAt corridor demands plan (suc k) i))
   unfolding simulated roadOf
   only-12 plan b =
       let r : Road = roadOf corridor demands in
-      judged-queue r (simulated corridor demands plan) (simulated-moves corridor demands within plan b) (record-costs r (run r (planOf r plan)))
+      judged-queue recordWidth r (simulated corridor demands plan) (simulated-moves corridor demands within plan b) (record-costs recordWidth r (run r (planOf r plan)) record-wide)
 
   first-above : (plan : List ℕ) (number row node : ℕ)
       → FirstFault (stepsOf demands) (suc (linksOf corridor)) (λ k i. queueFault (queueLimitAt corridor demands i) (queueAt corridor demands plan (suc k) i)) number row node
@@ -120,7 +120,7 @@ module _ (corridor demands : List ℕ) (within : limits corridor demands ≡ Acc
           }
 
   refused-iff : (plan work lent : List ℕ)
-      → length work ≡ recordLength (linksOf corridor) (stepsOf demands) → length lent ≡ planLength (linksOf corridor) (stepsOf demands)
+      → length work ≡ recordLength recordWidth (linksOf corridor) (stepsOf demands) → length lent ≡ planLength (linksOf corridor) (stepsOf demands)
       → length plan ≡ planLength (linksOf corridor) (stepsOf demands) → bounds (roadOf corridor demands) (planOf (roadOf corridor demands) plan) ≡ Accepted
       → (number row node : ℕ)
       → (normalAnswer corridor demands plan (length work) (length lent) ≡ Refused number row node) ↔ ((number ≡ 12) × FirstQueueAbove corridor demands plan row node)
@@ -153,7 +153,7 @@ module _ (corridor demands : List ℕ) (within : limits corridor demands ≡ Acc
         one-setting = named-once;
         one-plan = λ words plan a fits named.
             let r : Road = roadOf corridor demands in
-            let trace : Trace = traceOf r words in
+            let trace : Trace = traceOf recordWidth r words in
             plan-written r plan fits
             ∙ plan-same r (planOf r plan) (planFor r trace)
             (λ k i hk hi.
@@ -170,12 +170,12 @@ module _ (corridor demands : List ℕ) (within : limits corridor demands ≡ Acc
       let r : Road = roadOf corridor demands in
       let p : Plan = planOf r plan in
       let lim : Limits r = road-limits corridor demands within in
-      let same : SameTraces r (traceOf r (simulated corridor demands plan)) (run r p) = record-read r (run r p) in
+      let same : SameTraces r (traceOf recordWidth r (simulated corridor demands plan)) (run r p) = record-read recordWidth r (run r p) record-wide in
       record {
         record-length = simulated-length corridor demands within plan;
         vehicles-within-jam = λ k i hk hi. omega (arith, ap (λ (s : NodeState). s .vehicles) (same k i hk hi .state), run-jam r lim p k i hk hi);
         queues-at-most = λ k i hk hi. omega (arith, ap (λ (s : NodeState). s .queue) (same k i hk hi .state), run-state-fits r lim p k i hk hi .queue);
-        words-fit = record-fits r lim p;
+        words-fit = record-fits recordWidth r lim p;
         cost-fits = omega (arith, cost-same r _ _ same, run-cost r lim p);
       }
 

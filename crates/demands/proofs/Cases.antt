@@ -15,19 +15,24 @@ use Rattle.lists.specs.Words.{linksOf, nodeAt, stepsOf, roadOf, planOf, planWor
 use Rattle.faults.specs.Lists.{linkFault, rampFault, startFault, demandFault}
 use Rattle.lists.specs.Refusals.{sizes, fresh, linkRefusal, rampRefusal, startRefusal, demandRefusal, ranges}
 use Rattle.simulate.proofs.Case.{case-1}
-use Rattle.faults.specs.Records.{fixedFault, stepFault}
+use Rattle.faults.specs.Records.{fixedFault, stepFault, totalFault}
 use Rattle.convert.specs.Refusals.{costFault, judged}
 use Rattle.convert.specs.Convert.{settingAt, planFor, converted, convertAnswer}
 use Rattle.demands.specs.Cases.{Cases}
 
 pub cases : Cases
-unfolding first cell grid leastFrom sum tabulate sending exit through offer receiving passed merge flowsWith outflow moved supply junction inflow next cost fullFlows gives rateFor heldLimit settingFor linksOf nodeAt stepsOf roadOf planOf planWord planWords traceOf sizes linkFault fresh rampFault startFault demandFault linkRefusal rampRefusal startRefusal demandRefusal ranges fixedFault stepFault costFault judged settingAt planFor converted convertAnswer
+unfolding first cell grid leastFrom sum tabulate sending exit through offer receiving passed merge flowsWith outflow moved supply junction inflow next cost fullFlows gives rateFor heldLimit settingFor linksOf nodeAt stepsOf roadOf planOf planWord planWords traceOf sizes linkFault fresh rampFault startFault demandFault linkRefusal rampRefusal startRefusal demandRefusal ranges fixedFault stepFault totalFault costFault judged settingAt planFor converted convertAnswer
 cases =
     record {
+      case-1-sending = node-cases .case-1-sending;
+      case-1-total = refl;
+      case-1-supply = node-cases .case-1-supply;
+      case-1-accepted = case-1 .accepted;
       case-1 = case-1 .simulates;
       case-2 = record { accepted = refl; plans = refl };
       case-2-below = node-cases .case-2-below;
       case-3 = record { accepted = refl; plans = refl };
+      case-3-below = refl;
       case-4 = record { accepted = refl; plans = refl };
       case-5 = refl;
       case-6 = record { accepted = refl; plans = refl };

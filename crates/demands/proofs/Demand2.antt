@@ -6,8 +6,8 @@ use native.Mathlib.Nat.{le-of-lt}
 use native.Mathlib.Omega.{arith}
 use Rattle.road.specs.Run.{run}
 use Rattle.road.proofs.Runs.{run-flows, run-last}
-use Rattle.lists.specs.Words.{roadOf, planOf}
-use Rattle.lists.proofs.Words.{record-length, record-read, record-cost}
+use Rattle.lists.specs.Words.{roadOf, planOf, recordWidth}
+use Rattle.lists.proofs.Words.{record-wide, record-length, record-read, record-cost}
 use Rattle.simulate.specs.Simulate.{simulated}
 use Rattle.block.specs.declared.Kind.{Kind}
 use Rattle.block.proofs.EachKind.{written-then-read, read-then-written, change-seen}
@@ -18,14 +18,14 @@ unfolding simulated run
 simulated-is corridor demands words =
     let road = roadOf corridor demands in
     let plan = planOf (roadOf corridor demands) words in
-    let read = record-read road (run road plan) in
+    let read = record-read recordWidth road (run road plan) record-wide in
     record {
-      record-length = record-length road (run road plan);
+      record-length = record-length recordWidth road (run road plan);
       states = λ k i hk hi. read k i hk hi .state;
       flows = λ k i hk hi. read k i (le-of-lt hk) hi .flows ∙ run-flows road plan k i hk;
       last-flows = λ i hi. read (road .steps) i (omega arith) hi .flows ∙ run-last road plan i;
-      cost-low = record-cost road (run road plan) .low;
-      cost-high = record-cost road (run road plan) .high;
+      cost-low = record-cost recordWidth road (run road plan) .low;
+      cost-high = record-cost recordWidth road (run road plan) .high;
     }
 
 files-are : (kind : Kind) (n k : ℕ) → BlockFiles kind n k

@@ -15,11 +15,11 @@ use Rattle.road.specs.Run.{junction, run}
 use Rattle.road.specs.Limits.{Limits}
 use Rattle.settings.specs.Share.{Gives, IsSetting}
 use Rattle.settings.proofs.Settings.{full-speed-iff}
-use Rattle.lists.specs.Words.{linksOf, stepsOf, roadOf, planOf, planLength, traceOf, recordLength}
+use Rattle.lists.specs.Words.{linksOf, stepsOf, roadOf, planOf, planLength, traceOf, recordLength, recordWidth}
 use Rattle.lists.specs.Refusals.{sizes, ranges, bounds, limits}
 use Rattle.faults.proofs.Tests.{eq-holds}
 use Rattle.lists.proofs.Limits.{sized-iff, bounds-iff, limits-iff}
-use Rattle.lists.proofs.Words.{plan-length, record-length}
+use Rattle.lists.proofs.Words.{record-wide, plan-length, record-length}
 use Rattle.simulate.specs.Simulate.{simulateSizes, simulateAnswer, simulated}
 use Rattle.convert.specs.Refusals.{judged}
 use Rattle.convert.specs.Convert.{planFor, converted, normalForm, checkAnswer, convertAnswer, normalRefusal, normalAnswer}
@@ -46,14 +46,14 @@ module _ (corridor demands : List ℕ) (within : limits corridor demands ≡ Acc
   unfolding limits
   ranges-right = orElse-accepts (sized (sizes corridor demands)) (ranges road) .0 within .1
 
-  pub simulate-answer : (plan : List ℕ) (room : ℕ) → room ≡ recordLength (linksOf corridor) (stepsOf demands)
+  pub simulate-answer : (plan : List ℕ) (room : ℕ) → room ≡ recordLength recordWidth (linksOf corridor) (stepsOf demands)
       → simulateAnswer corridor demands plan room
       ≡ orElse (sized (eqb (length plan) (planLength (linksOf corridor) (stepsOf demands)))) (bounds road (planOf road plan))
   unfolding simulateAnswer simulateSizes
   simulate-answer plan room e = simp (sizes-right, ranges-right, eq-eqb room _ e, and-true)
 
   pub check-answer : (words : List ℕ)
-      → checkAnswer corridor demands words ≡ orElse (sized (eqb (length words) (recordLength (linksOf corridor) (stepsOf demands)))) (judged road words)
+      → checkAnswer corridor demands words ≡ orElse (sized (eqb (length words) (recordLength recordWidth (linksOf corridor) (stepsOf demands)))) (judged recordWidth road words)
   unfolding checkAnswer
   check-answer words = simp (sizes-right, ranges-right)
 
@@ -62,42 +62,42 @@ module _ (corridor demands : List ℕ) (within : limits corridor demands ≡ Acc
   unfolding convertAnswer checkAnswer
   convert-answer words room e = simp (eq-eqb room _ e, and-true)
 
-  pub normal-answer : (plan : List ℕ) (work room : ℕ) → work ≡ recordLength (linksOf corridor) (stepsOf demands) → room ≡ planLength (linksOf corridor) (stepsOf demands)
+  pub normal-answer : (plan : List ℕ) (work room : ℕ) → work ≡ recordLength recordWidth (linksOf corridor) (stepsOf demands) → room ≡ planLength (linksOf corridor) (stepsOf demands)
       → normalAnswer corridor demands plan work room
       ≡ orElse (orElse (sized (eqb (length plan) (planLength (linksOf corridor) (stepsOf demands)))) (bounds road (planOf road plan)))
-      (judged road (simulated corridor demands plan))
+      (judged recordWidth road (simulated corridor demands plan))
   unfolding normalAnswer normalRefusal
   normal-answer plan work room e f = simp (sizes-right, ranges-right, eq-eqb work _ e, eq-eqb room _ f, and-true)
 
   -- a record is accepted exactly where it has the right length and keeps 7 to 13
   pub accepted-iff : (words : List ℕ)
-      → (checkAnswer corridor demands words ≡ Accepted) ↔ ((length words ≡ recordLength (linksOf corridor) (stepsOf demands)) × Keeps road words)
+      → (checkAnswer corridor demands words ≡ Accepted) ↔ ((length words ≡ recordLength recordWidth (linksOf corridor) (stepsOf demands)) × Keeps recordWidth road words)
   accepted-iff words =
-      let n : ℕ = recordLength (linksOf corridor) (stepsOf demands) in
-      let r = orElse-accepts (sized (eqb (length words) n)) (judged road words) in (
+      let n : ℕ = recordLength recordWidth (linksOf corridor) (stepsOf demands) in
+      let r = orElse-accepts (sized (eqb (length words) n)) (judged recordWidth road words) in (
         λ e.
             let (a, b) = r .0 (sym (check-answer words) ∙ e) in
-            (eq-holds (length words) n .0 (sized-iff _ .0 a), judged-iff road words .0 b),
-        λ h. check-answer words ∙ r .1 (sized-iff _ .1 (eq-holds (length words) n .1 (h .0)), judged-iff road words .1 (h .1)),
+            (eq-holds (length words) n .0 (sized-iff _ .0 a), judged-iff recordWidth road words .0 b),
+        λ h. check-answer words ∙ r .1 (sized-iff _ .1 (eq-holds (length words) n .1 (h .0)), judged-iff recordWidth road words .1 (h .1)),
       )
 
   -- ---- the record of a plan
 
-  pub simulated-length : (plan : List ℕ) → length (simulated corridor demands plan) ≡ recordLength (linksOf corridor) (stepsOf demands)
+  pub simulated-length : (plan : List ℕ) → length (simulated corridor demands plan) ≡ recordLength recordWidth (linksOf corridor) (stepsOf demands)
   unfolding simulated roadOf
-  simulated-length plan = record-length road (run road (planOf road plan))
+  simulated-length plan = record-length recordWidth road (run road (planOf road plan))
 
-  pub simulated-moves : (plan : List ℕ) → bounds road (planOf road plan) ≡ Accepted → Moves road (traceOf road (simulated corridor demands plan))
+  pub simulated-moves : (plan : List ℕ) → bounds road (planOf road plan) ≡ Accepted → Moves road (traceOf recordWidth road (simulated corridor demands plan))
   unfolding simulated
-  simulated-moves plan b = record-moves road road-limits (planOf road plan) (bounds-iff road (planOf road plan) .0 b)
+  simulated-moves plan b = record-moves recordWidth record-wide road road-limits (planOf road plan) (bounds-iff road (planOf road plan) .0 b)
 
-  pub valid-keeps : (plan : List ℕ) → Valid corridor demands plan → Keeps road (simulated corridor demands plan)
+  pub valid-keeps : (plan : List ℕ) → Valid corridor demands plan → Keeps recordWidth road (simulated corridor demands plan)
   unfolding simulated roadOf
   valid-keeps plan v =
       record {
         moves = simulated-moves plan (v .bounded);
         queues = λ k i hk hi. v .queues (suc k) i hk hi;
-        costs = record-costs road (run road (planOf road plan));
+        costs = record-costs recordWidth road (run road (planOf road plan)) record-wide;
       }
 
   pub valid-accepted : (plan : List ℕ) → Valid corridor demands plan → checkAnswer corridor demands (simulated corridor demands plan) ≡ Accepted
@@ -105,49 +105,49 @@ module _ (corridor demands : List ℕ) (within : limits corridor demands ≡ Acc
 
   -- within bounds, with a record that keeps 7 to 13, is valid
   pub kept-valid : (plan : List ℕ) → length plan ≡ planLength (linksOf corridor) (stepsOf demands) → bounds road (planOf road plan) ≡ Accepted
-      → Keeps road (simulated corridor demands plan) → Valid corridor demands plan
+      → Keeps recordWidth road (simulated corridor demands plan) → Valid corridor demands plan
   unfolding roadOf
   kept-valid plan fits b keeps =
       record {
         sized = fits;
         bounded = b;
-        queues = queues-within road road-limits (traceOf road (simulated corridor demands plan)) (keeps .moves) (keeps .queues);
+        queues = queues-within recordWidth record-wide road road-limits (traceOf recordWidth road (simulated corridor demands plan)) (keeps .moves) (keeps .queues);
       }
 
   -- ---- the plan that the converter returns for an accepted record
 
   pub converted-length : (words : List ℕ) → length (converted corridor demands words) ≡ planLength (linksOf corridor) (stepsOf demands)
   unfolding converted roadOf
-  converted-length words = plan-length road (planFor road (traceOf road words))
+  converted-length words = plan-length road (planFor road (traceOf recordWidth road words))
 
   module _ (words : List ℕ) (accepted : checkAnswer corridor demands words ≡ Accepted) where
-    pub accepted-keeps : Keeps road words
+    pub accepted-keeps : Keeps recordWidth road words
     accepted-keeps = accepted-iff words .0 accepted .1
 
     pub returned-has-the-record : simulated corridor demands (converted corridor demands words) ≡ words
     unfolding simulated converted roadOf
-    returned-has-the-record = returned-record road road-limits words accepted-keeps (accepted-iff words .0 accepted .0)
+    returned-has-the-record = returned-record recordWidth record-wide road road-limits words accepted-keeps (accepted-iff words .0 accepted .0)
 
     pub returned-is-valid : Valid corridor demands (converted corridor demands words)
     unfolding converted
     returned-is-valid =
         kept-valid (converted corridor demands words) (converted-length words)
-        (bounds-iff road (planOf road (converted corridor demands words)) .1 (returned-bounded road road-limits words accepted-keeps))
-        (subst (λ (w : List ℕ). Keeps road w) (sym returned-has-the-record) accepted-keeps)
+        (bounds-iff road (planOf road (converted corridor demands words)) .1 (returned-bounded recordWidth record-wide road road-limits words accepted-keeps))
+        (subst (λ (w : List ℕ). Keeps recordWidth road w) (sym returned-has-the-record) accepted-keeps)
 
     pub returned-settings : (k i : ℕ) → k < stepsOf demands → i ≤ linksOf corridor
         → IsSetting (recorded corridor demands words k i) (recordedFlows corridor demands words k i)
         (rateAt corridor demands (converted corridor demands words) k i)
         (limitAt corridor demands (converted corridor demands words) k i)
     unfolding converted roadOf
-    returned-settings k i hk hi = returned-named road road-limits words accepted-keeps k i hk hi
+    returned-settings k i hk hi = returned-named recordWidth record-wide road road-limits words accepted-keeps k i hk hi
 
     pub returned-full-speed : (k i : ℕ) → k < stepsOf demands → i ≤ linksOf corridor
         → (limitAt corridor demands (converted corridor demands words) k i ≡ road .node i .link .fullSpeed)
         ↔ ((rate : ℕ) × (rate ≤ road .node i .ramp .capacity) × Gives (recorded corridor demands words k i) (recordedFlows corridor demands words k i) rate)
     unfolding roadOf junction
     returned-full-speed k i hk hi =
-        full-speed-iff (recorded corridor demands words k i) (trace-limits road road-limits (traceOf road words) (accepted-keeps .moves) k i hk hi)
+        full-speed-iff (recorded corridor demands words k i) (trace-limits road road-limits (traceOf recordWidth road words) (accepted-keeps .moves) k i hk hi)
         (recordedFlows corridor demands words k i) (accepted-keeps .moves .steps k i hk hi .permitted) _ _ (returned-settings k i hk hi)
 
     pub returned-plan : Returned corridor demands words
@@ -184,21 +184,21 @@ module _ (corridor demands : List ℕ) (within : limits corridor demands ≡ Acc
   )
 
   -- its answer is accepted exactly for valid plans
-  pub normal-accepted-iff : (plan : List ℕ) (work room : ℕ) → work ≡ recordLength (linksOf corridor) (stepsOf demands) → room ≡ planLength (linksOf corridor) (stepsOf demands)
+  pub normal-accepted-iff : (plan : List ℕ) (work room : ℕ) → work ≡ recordLength recordWidth (linksOf corridor) (stepsOf demands) → room ≡ planLength (linksOf corridor) (stepsOf demands)
       → (normalAnswer corridor demands plan work room ≡ Accepted) ↔ Valid corridor demands plan
   normal-accepted-iff plan work room hw hr =
       let n : ℕ = planLength (linksOf corridor) (stepsOf demands) in
-      let r = orElse-accepts (orElse (sized (eqb (length plan) n)) (bounds road (planOf road plan))) (judged road (simulated corridor demands plan)) in
+      let r = orElse-accepts (orElse (sized (eqb (length plan) n)) (bounds road (planOf road plan))) (judged recordWidth road (simulated corridor demands plan)) in
       let q = orElse-accepts (sized (eqb (length plan) n)) (bounds road (planOf road plan)) in (
         λ e.
             let (a, b) = r .0 (sym (normal-answer plan work room hw hr) ∙ e) in
             let (x, y) = q .0 a in
-            kept-valid plan (eq-holds (length plan) n .0 (sized-iff _ .0 x)) y (judged-iff road (simulated corridor demands plan) .0 b),
+            kept-valid plan (eq-holds (length plan) n .0 (sized-iff _ .0 x)) y (judged-iff recordWidth road (simulated corridor demands plan) .0 b),
         λ v.
             normal-answer plan work room hw hr
             ∙ r .1 (
               q .1 (sized-iff _ .1 (eq-holds (length plan) n .1 (v .sized)), v .bounded),
-              judged-iff road (simulated corridor demands plan) .1 (valid-keeps plan v),
+              judged-iff recordWidth road (simulated corridor demands plan) .1 (valid-keeps plan v),
             ),
       )
 

@@ -13,7 +13,7 @@ use Rattle.road.specs.Corridor.{Flows}
 use Rattle.road.specs.Step.{Junction}
 use Rattle.road.specs.Run.{cost}
 use Rattle.settings.specs.Share.{IsSetting}
-use Rattle.lists.specs.Words.{linksOf, stepsOf, roadOf, planOf, traceOf, planLength, recordLength}
+use Rattle.lists.specs.Words.{linksOf, stepsOf, roadOf, planOf, traceOf, planLength, recordLength, recordWidth}
 use Rattle.lists.specs.Refusals.{bounds}
 use Rattle.simulate.specs.Simulate.{simulateAnswer, simulated}
 use Rattle.convert.specs.Refusals.{judged}
@@ -27,7 +27,7 @@ pub record InBounds (corridor demands plan : List ℕ) (k i : ℕ) : Type 0 wher
 
 -- the queue of node i in state k of a plan's record, and L of node i
 abbrev pub queueAt : List ℕ → List ℕ → List ℕ → ℕ → ℕ → ℕ
-queueAt corridor demands plan k i = traceOf (roadOf corridor demands) (simulated corridor demands plan) .state k i .queue
+queueAt corridor demands plan k i = traceOf recordWidth (roadOf corridor demands) (simulated corridor demands plan) .state k i .queue
 
 abbrev pub queueLimitAt : List ℕ → List ℕ → ℕ → ℕ
 queueLimitAt corridor demands i = roadOf corridor demands .node i .ramp .queueLimit
@@ -47,7 +47,7 @@ pub record Checking (corridor demands : List ℕ) : Type 0 where
       → (bounds (roadOf corridor demands) (planOf (roadOf corridor demands) plan) ≡ Accepted)
       ↔ ((k i : ℕ) → k < stepsOf demands → i ≤ linksOf corridor → InBounds corridor demands plan k i)
   -- the simulator records every plan within bounds, valid or not
-  pub simulated-iff-within-bounds : (plan lent : List ℕ) → length lent ≡ recordLength (linksOf corridor) (stepsOf demands)
+  pub simulated-iff-within-bounds : (plan lent : List ℕ) → length lent ≡ recordLength recordWidth (linksOf corridor) (stepsOf demands)
       → (simulateAnswer corridor demands plan (length lent) ≡ Accepted)
       ↔ ((length plan ≡ planLength (linksOf corridor) (stepsOf demands))
       × (bounds (roadOf corridor demands) (planOf (roadOf corridor demands) plan) ≡ Accepted))
@@ -63,16 +63,16 @@ pub record Checking (corridor demands : List ℕ) : Type 0 where
 pub record NormalForms (corridor demands : List ℕ) : Type 0 where
   -- a normal form's answer is accepted exactly for valid plans, whatever the list
   pub normal-form-accepted-iff-valid : (plan work lent : List ℕ)
-      → length work ≡ recordLength (linksOf corridor) (stepsOf demands) → length lent ≡ planLength (linksOf corridor) (stepsOf demands)
+      → length work ≡ recordLength recordWidth (linksOf corridor) (stepsOf demands) → length lent ≡ planLength (linksOf corridor) (stepsOf demands)
       → (normalAnswer corridor demands plan (length work) (length lent) ≡ Accepted) ↔ Valid corridor demands plan
   -- "12, the one of 7..13 that it can meet": of a plan within bounds, the answer of 7 to 13 is that of 12
   pub only-12-is-left : (plan : List ℕ) → bounds (roadOf corridor demands) (planOf (roadOf corridor demands) plan) ≡ Accepted
-      → judged (roadOf corridor demands) (simulated corridor demands plan)
+      → judged recordWidth (roadOf corridor demands) (simulated corridor demands plan)
       ≡ firstPlace (stepsOf demands) (suc (linksOf corridor))
       (λ k i. unless (leb (queueAt corridor demands plan (suc k) i) (queueLimitAt corridor demands i)) 12)
   -- with its place: 12 is given for the first queue above L, and nothing else is given
   pub refused-iff-first-queue-above : (plan work lent : List ℕ)
-      → length work ≡ recordLength (linksOf corridor) (stepsOf demands) → length lent ≡ planLength (linksOf corridor) (stepsOf demands)
+      → length work ≡ recordLength recordWidth (linksOf corridor) (stepsOf demands) → length lent ≡ planLength (linksOf corridor) (stepsOf demands)
       → length plan ≡ planLength (linksOf corridor) (stepsOf demands)
       → bounds (roadOf corridor demands) (planOf (roadOf corridor demands) plan) ≡ Accepted
       → (number row node : ℕ)
@@ -97,15 +97,15 @@ pub record OneSetting (corridor demands : List ℕ) : Type 0 where
 
 -- the numbers in the record of a plan, whatever its words
 pub record RecordSizes (corridor demands plan : List ℕ) : Type 0 where
-  pub record-length : length (simulated corridor demands plan) ≡ recordLength (linksOf corridor) (stepsOf demands)
+  pub record-length : length (simulated corridor demands plan) ≡ recordLength recordWidth (linksOf corridor) (stepsOf demands)
   -- n ≤ J
   pub vehicles-within-jam : (k i : ℕ) → k ≤ stepsOf demands → i ≤ linksOf corridor
-      → traceOf (roadOf corridor demands) (simulated corridor demands plan) .state k i .vehicles ≤ roadOf corridor demands .node i .link .jam
+      → traceOf recordWidth (roadOf corridor demands) (simulated corridor demands plan) .state k i .vehicles ≤ roadOf corridor demands .node i .link .jam
   pub queues-at-most : (k i : ℕ) → k ≤ stepsOf demands → i ≤ linksOf corridor → queueAt corridor demands plan k i ≤ 228589568
   -- every word is below 2^32
   pub words-fit : (j : ℕ) → getD (simulated corridor demands plan) j 0 < 4294967296
   -- the cost is below 2^45
-  pub cost-fits : cost (roadOf corridor demands) (traceOf (roadOf corridor demands) (simulated corridor demands plan)) < 35184372088832
+  pub cost-fits : cost (roadOf corridor demands) (traceOf recordWidth (roadOf corridor demands) (simulated corridor demands plan)) < 35184372088832
 
 -- and in the plan that the converter returns: its words are at most 65,536
 pub record PlanSizes (corridor demands words : List ℕ) : Type 0 where

@@ -1,16 +1,17 @@
 -- Cases 1 to 10 of B, worked through in document 01, read as definitions.
-use Prim.Native.Nat.{ℕ}
+use Prim.Native.Nat.{ℕ, _+_}
 use mathlib.Core.List.{List, [], _∷_}
 use mathlib.Core.Path.{_≡_}
+use lib.ListN.{length}
 use Rattle.tables.specs.declared.Answer.{Answer}
 use Rattle.tables.specs.declared.Answer.the-variants.{Accepted, Refused}
-use Rattle.road.specs.Step.{through, flowsWith}
+use Rattle.road.specs.Step.{sending, through, offer, receiving, flowsWith}
 use Rattle.settings.specs.Setting.{settingFor}
-use Rattle.settings.specs.Cases.{nodeOne, nodeNine, flows, full, held}
+use Rattle.settings.specs.Cases.{link, ramp, nodeOne, nodeNine, flows, full, held}
 use Rattle.payload.specs.Block.{checkWord, bodyWord}
 use Rattle.payload.specs.File.{payloadIn}
 use Rattle.simulate.specs.B.{corridor, demands, plan, recordWith, record-1}
-use Rattle.simulate.specs.Simulate.{simulated}
+use Rattle.simulate.specs.Simulate.{simulateAnswer, simulated}
 use Rattle.convert.specs.Convert.{converted, convertAnswer}
 
 -- the plan with this rate and limit at node 1: rate 0 at node 0, full speed on link 2
@@ -40,13 +41,19 @@ pub record Converts (corridor words plan : List ℕ) : Type 0 where
   pub plans : converted corridor demands words ≡ plan
 
 pub record Cases : Type 0 where
-  -- rates 100, 60, full limits: f1 = 80, r1 = 40, f2 = 100; next n 120, 200, l 30, 20; cost 370
+  -- rates 100, 60, full limits: D = 100, R = 125, S = 100,
+  pub case-1-sending : sending link 200 32768 ≡ 100
+  pub case-1-total : through 100 16384 + offer ramp 50 60 ≡ 125
+  pub case-1-supply : receiving link 200 ≡ 100
+  -- f1 = 80, r1 = 40, f2 = 100; next n 120, 200, l 30, 20; cost 370
+  pub case-1-accepted : simulateAnswer corridor demands plan (length record-1) ≡ Accepted
   pub case-1 : simulated corridor demands plan ≡ record-1
   -- that record: node 1 full, rate 50 (49 gives r = 39)
   pub case-2 : Converts corridor record-1 (planWith 50 32768)
   pub case-2-below : flowsWith (nodeOne 200 200) 49 32768 .ramp ≡ 39
-  -- f1 = 60, r1 = 50: held, rate 50, limit 19,661
+  -- f1 = 60, r1 = 50: held, rate 50, limit 19,661 (19,660 sends 59)
   pub case-3 : Converts corridor (recordWith 60 50 140 195 30 10 375) (planWith 50 19661)
+  pub case-3-below : sending link 200 19660 ≡ 59
   -- f1 = 100, r1 = 25: full, rate 25
   pub case-4 : Converts corridor (recordWith 100 25 100 200 30 35 365) (planWith 25 32768)
   -- f1 = 100, r1 = 26: refusal 9

@@ -7,7 +7,7 @@ use Rattle.tables.specs.declared.Answer.{Answer}
 use Rattle.tables.specs.declared.Answer.the-variants.{Accepted, Refused}
 use Rattle.road.specs.Corridor.{Road, Plan}
 use Rattle.road.specs.Run.{planFlows, stateAt, noFlow, run, cost}
-use Rattle.lists.specs.Words.{roadOf, planOf, traceOf, traceLength, recordLength}
+use Rattle.lists.specs.Words.{roadOf, planOf, traceOf, traceLength, recordLength, recordWidth}
 use Rattle.simulate.specs.Simulate.{simulated}
 use Rattle.payload.specs.Word.{Bytes, Words}
 use Rattle.payload.specs.File.{blocksFor, OneChange}
@@ -17,15 +17,15 @@ use Rattle.block.specs.Calls.{readAnswer, wordsRead, writeAnswer, fileWritten}
 
 -- "the simulator's record equals the Link-Node Cell Transmission Model as document 01 rounds it to whole units:"
 pub record SimulatedRecord (corridor demands words : List ℕ) (road : Road) (plan : Plan) : Type 0 where
-  pub record-length : length (simulated corridor demands words) ≡ recordLength (road .links) (road .steps)
+  pub record-length : length (simulated corridor demands words) ≡ recordLength recordWidth (road .links) (road .steps)
   -- "each density, queue,"
-  pub states : (k i : ℕ) → k ≤ road .steps → i ≤ road .links → traceOf road (simulated corridor demands words) .state k i ≡ stateAt road plan k i
+  pub states : (k i : ℕ) → k ≤ road .steps → i ≤ road .links → traceOf recordWidth road (simulated corridor demands words) .state k i ≡ stateAt road plan k i
   -- "mainline flow and ramp flow,"
-  pub flows : (k i : ℕ) → k < road .steps → i ≤ road .links → traceOf road (simulated corridor demands words) .flows k i ≡ planFlows road plan k (stateAt road plan k) i
-  pub last-flows : (i : ℕ) → i ≤ road .links → traceOf road (simulated corridor demands words) .flows (road .steps) i ≡ noFlow
+  pub flows : (k i : ℕ) → k < road .steps → i ≤ road .links → traceOf recordWidth road (simulated corridor demands words) .flows k i ≡ planFlows road plan k (stateAt road plan k) i
+  pub last-flows : (i : ℕ) → i ≤ road .links → traceOf recordWidth road (simulated corridor demands words) .flows (road .steps) i ≡ noFlow
   -- "and the total cost."
-  pub cost-low : getD (simulated corridor demands words) (traceLength (road .links) (road .steps)) 0 ≡ cost road (run road plan) % 4294967296
-  pub cost-high : getD (simulated corridor demands words) (traceLength (road .links) (road .steps) + 1) 0 ≡ cost road (run road plan) / 4294967296
+  pub cost-low : getD (simulated corridor demands words) (traceLength recordWidth (road .links) (road .steps)) 0 ≡ cost road (run road plan) % 4294967296
+  pub cost-high : getD (simulated corridor demands words) (traceLength recordWidth (road .links) (road .steps) + 1) 0 ≡ cost road (run road plan) / 4294967296
 
 -- "Block files follow document 01:" for each kind, told N and K
 pub record BlockFiles (kind : Kind) (n k : ℕ) : Type 0 where

@@ -9,7 +9,7 @@ use Rattle.road.specs.Corridor.{Flows}
 use Rattle.road.specs.Step.{Junction}
 use Rattle.road.specs.Run.{junction}
 use Rattle.settings.specs.Share.{Gives, IsSetting}
-use Rattle.lists.specs.Words.{linksOf, stepsOf, roadOf, planOf, traceOf, planLength, recordLength}
+use Rattle.lists.specs.Words.{linksOf, stepsOf, roadOf, planOf, traceOf, planLength, recordLength, recordWidth}
 use Rattle.lists.specs.Refusals.{bounds}
 use Rattle.simulate.specs.Simulate.{simulated}
 use Rattle.convert.specs.Convert.{converted, normalForm, convertAnswer, normalAnswer}
@@ -19,7 +19,7 @@ pub record Valid (corridor demands plan : List ℕ) : Type 0 where
   pub sized : length plan ≡ planLength (linksOf corridor) (stepsOf demands)
   pub bounded : bounds (roadOf corridor demands) (planOf (roadOf corridor demands) plan) ≡ Accepted
   pub queues : (k i : ℕ) → k ≤ stepsOf demands → i ≤ linksOf corridor
-      → traceOf (roadOf corridor demands) (simulated corridor demands plan) .state k i .queue ≤ roadOf corridor demands .node i .ramp .queueLimit
+      → traceOf recordWidth (roadOf corridor demands) (simulated corridor demands plan) .state k i .queue ≤ roadOf corridor demands .node i .ramp .queueLimit
 
 -- some valid plan has the proposed record: "that and its own record agree in every word"
 abbrev pub SomeValidPlan : List ℕ → List ℕ → List ℕ → Type 0
@@ -27,11 +27,11 @@ SomeValidPlan corridor demands words = (plan : List ℕ) × Valid corridor deman
 
 -- node i at step k of a record
 abbrev pub recorded : List ℕ → List ℕ → List ℕ → ℕ → ℕ → Junction
-recorded corridor demands words k i = junction (roadOf corridor demands) k (traceOf (roadOf corridor demands) words .state k) i
+recorded corridor demands words k i = junction (roadOf corridor demands) k (traceOf recordWidth (roadOf corridor demands) words .state k) i
 
 -- the flows that it has there
 abbrev pub recordedFlows : List ℕ → List ℕ → List ℕ → ℕ → ℕ → Flows
-recordedFlows corridor demands words k i = traceOf (roadOf corridor demands) words .flows k i
+recordedFlows corridor demands words k i = traceOf recordWidth (roadOf corridor demands) words .flows k i
 
 -- rate and limit of a plan at node i and step k
 abbrev pub rateAt : List ℕ → List ℕ → List ℕ → ℕ → ℕ → ℕ
@@ -65,7 +65,7 @@ pub record Demand3 (corridor demands : List ℕ) : Type 0 where
       → (normalForm corridor demands plan ≡ normalForm corridor demands other) ↔ (simulated corridor demands plan ≡ simulated corridor demands other)
   -- "A valid plan's normal form is the converter's plan for its record."
   pub normal-form-is-the-converted-record : (plan : List ℕ) → Valid corridor demands plan
-      → (normalAnswer corridor demands plan (recordLength (linksOf corridor) (stepsOf demands)) (planLength (linksOf corridor) (stepsOf demands)) ≡ Accepted)
+      → (normalAnswer corridor demands plan (recordLength recordWidth (linksOf corridor) (stepsOf demands)) (planLength (linksOf corridor) (stepsOf demands)) ≡ Accepted)
       × (convertAnswer corridor demands (simulated corridor demands plan) (planLength (linksOf corridor) (stepsOf demands)) ≡ Accepted)
       × (normalForm corridor demands plan ≡ converted corridor demands (simulated corridor demands plan))
   -- "Whatever record is proposed, the converter returns a plan exactly when some valid plan has that record,"

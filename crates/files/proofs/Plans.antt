@@ -8,7 +8,8 @@ use lib.ListN.{length, take, drop}
 use Rattle.tables.proofs.Grid.{rowWords-length}
 use Rattle.tables.proofs.Numbers.{row-fits}
 use Rattle.tables.proofs.Tabulate.{tabulate-length}
-use Rattle.lists.specs.Words.{free, recordWidth, Width, planLength, corridorLength}
+use Rattle.lists.specs.Words.{free, recordWidth, planLength, corridorLength}
+use Rattle.lists.proofs.Words.{record-wide}
 use Rattle.convert.specs.Convert.{converted}
 use Rattle.convert.specs.Rows.{planRow, settingWord, Ready}
 use Rattle.convert.proofs.Settings.{PlanRows, plan-begun, plan-more, plan-ended}
@@ -32,10 +33,6 @@ pub record PlanPut (corridor demands recorded : List ℕ) (links steps k : ℕ) 
 pub put-begun : (corridor demands recorded : List ℕ) (links steps : ℕ) (lent : List ℕ) → Holds (planLength links steps) lent → PlanPut corridor demands recorded links steps 0 lent lent
 put-begun corridor demands recorded links steps lent h =
     record { rows = plan-begun corridor _ _ links steps _ (tabulate-length (planLength links steps) (payloadWord lent)); holds = h }
-
--- the width of a record's row, as a fact
-pub record-wide : Width recordWidth
-record-wide = record { least = omega arith; most = omega arith }
 
 -- the plan's row of step k, in the words of the lists
 row-read : (corridor demands recorded : List ℕ) (links steps k : ℕ) → k < steps

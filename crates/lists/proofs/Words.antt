@@ -14,7 +14,7 @@ use Rattle.road.specs.Corridor.{NodeState, Road, Plan, Flows, Trace, nodes}
 use Rattle.road.specs.Run.{cost}
 use Rattle.road.proofs.Rules.{flows-eq, state-eq}
 use Rattle.road.proofs.Same.{SameSetting, SamePlans, SamePlace, SameTraces, cost-same}
-use Rattle.lists.specs.Words.{planOf, planWord, planWords, planLength, Width, traceOf, traceWord, nodeWord, traceWords, lowHigh, recordWords, traceLength, recordLength}
+use Rattle.lists.specs.Words.{planOf, planWord, planWords, planLength, recordWidth, Width, traceOf, traceWord, nodeWord, traceWords, lowHigh, recordWords, traceLength, recordLength}
 
 -- ---- a plan
 
@@ -59,6 +59,9 @@ plan-written road words fits = plan-is road (planOf road words) words fits (λ k
     word k i (suc (suc q)) h = absurd (omega arith)
 
 -- ---- a record
+
+pub record-wide : Width recordWidth
+record-wide = record { least = omega arith; most = omega arith }
 
 pub trace-length : (width : ℕ) (road : Road) (trace : Trace) → length (traceWords width road trace) ≡ traceLength width (road .links) (road .steps)
 unfolding traceWords

@@ -16,7 +16,7 @@ use Rattle.tables.proofs.Answers.{orElse-accepts, refusal-unless}
 use Rattle.tables.proofs.Tabulate.{tabulate-at}
 use Rattle.road.specs.Corridor.{Road}
 use Rattle.road.specs.Run.{cost}
-use Rattle.lists.specs.Words.{linksOf, stepsOf, roadOf, traceOf, corridorLength, demandsLength, traceLength, recordLength}
+use Rattle.lists.specs.Words.{linksOf, stepsOf, roadOf, recordWidth, traceOf, corridorLength, demandsLength, traceLength, recordLength}
 use Rattle.faults.specs.Lists.{within}
 use Rattle.lists.proofs.Limits.{sized-iff}
 use Rattle.faults.proofs.Tests.{within-holds}
@@ -119,29 +119,29 @@ module _ (input : List ℕ) (n k : ℕ) (links : n ≡ linksIn input) (steps : k
   unfolding demandsBlock
   demands-at = laid .demands ∙ ap (λ (x : ℕ). blocksFor (corridorLength x) * 512) links
 
-  record-at : at .words ≡ recordBlock input * 512
+  record-at : at .recorded ≡ recordBlock input * 512
   unfolding recordBlock demandsBlock
-  record-at = laid .words ∙ ap₂ (λ (x y : ℕ). (blocksFor (corridorLength x) + blocksFor (demandsLength x y)) * 512) links steps
+  record-at = laid .recorded ∙ ap₂ (λ (x y : ℕ). (blocksFor (corridorLength x) + blocksFor (demandsLength x y)) * 512) links steps
 
   end-at : at .end ≡ endBlock input * 512
   unfolding endBlock recordBlock demandsBlock
-  end-at = laid .end ∙ ap₂ (λ (x y : ℕ). (blocksFor (corridorLength x) + blocksFor (demandsLength x y) + blocksFor (recordLength x y)) * 512) links steps
+  end-at = laid .end ∙ ap₂ (λ (x y : ℕ). (blocksFor (corridorLength x) + blocksFor (demandsLength x y) + blocksFor (recordLength recordWidth x y)) * 512) links steps
 
   -- the files as the code lends them are the input's, whatever is asked of them
   parts-are {ℓ} : {X : Type ℓ} (f : ℕ → ℕ → List ℕ → List ℕ → List ℕ → X)
-      → f n k (take (at .demands) input) (take (at .words - at .demands) (drop (at .demands) input)) (take (length input - at .words) (drop (at .words) input))
+      → f n k (take (at .demands) input) (take (at .recorded - at .demands) (drop (at .demands) input)) (take (length input - at .recorded) (drop (at .recorded) input))
       ≡ f (linksIn input) (stepsIn input) (corridorFile input) (demandsFile input) (recordFile input)
   parts-are f =
       λ z.
       f (links z) (steps z) (take (demands-at z) input) (take (record-at z - demands-at z) (drop (demands-at z) input))
-      ((rest-is (at .words) input ∙ ap (λ (x : ℕ). drop x input) record-at) z)
+      ((rest-is (at .recorded) input ∙ ap (λ (x : ℕ). drop x input) record-at) z)
 
   module _ (a : Answer) where
     pub files-left-over : a ≡ Refused 14 0 0 → length input ≢ at .end → a ≡ filesLeft input
     files-left-over e h = e ∙ test-fails 13 _ _ (ne-eqb (length input) (endBlock input * 512) (λ q. h (q ∙ sym end-at)))
 
     pub files-read : length input ≡ at .end
-        → a ≡ readThenCheck n k (take (at .demands) input) (take (at .words - at .demands) (drop (at .demands) input)) (take (length input - at .words) (drop (at .words) input))
+        → a ≡ readThenCheck n k (take (at .demands) input) (take (at .recorded - at .demands) (drop (at .demands) input)) (take (length input - at .recorded) (drop (at .recorded) input))
         → a ≡ filesLeft input
     files-read h e = e ∙ parts-are readThenCheck ∙ test-holds 13 _ _ (eq-eqb (length input) (endBlock input * 512) (h ∙ end-at))
 
@@ -208,48 +208,48 @@ module _ (input : List ℕ) (kept : Kept input) (n : ℕ) (links : n ≡ linksIn
 -- ---- its files, as the code lends them: what holds of the one holds of the other
 
 module _ (input : List ℕ) (kept : Kept input) (at : Layout) (laid : Laid (linksIn input) (stepsIn input) at) where
-  pub in-order : (at .demands ≤ at .words) × (at .words ≤ length input)
+  pub in-order : (at .demands ≤ at .recorded) × (at .recorded ≤ length input)
   unfolding endBlock recordBlock demandsBlock
-  in-order = (omega (arith, laid .demands, laid .words), omega (arith, laid .words, kept .whole))
+  in-order = (omega (arith, laid .demands, laid .recorded), omega (arith, laid .recorded, kept .whole))
 
   laid-again : Laid (at .links) (at .steps) at
   laid-again = subst₂ (λ (n k : ℕ). Laid n k at) (sym (laid .links)) (sym (laid .steps)) laid
 
   module _ (P : ℕ → ℕ → List ℕ → List ℕ → List ℕ → Type 0) where
     pub lent : P (linksIn input) (stepsIn input) (corridorFile input) (demandsFile input) (recordFile input)
-        → P (at .links) (at .steps) (take (at .demands) input) (take (at .words - at .demands) (drop (at .demands) input)) (take (length input - at .words) (drop (at .words) input))
+        → P (at .links) (at .steps) (take (at .demands) input) (take (at .recorded - at .demands) (drop (at .demands) input)) (take (length input - at .recorded) (drop (at .recorded) input))
     lent h = coe 1 0 (z. parts-are input (at .links) (at .steps) (laid .links) (laid .steps) at laid-again P z) h
 
-    pub lent-back : P (at .links) (at .steps) (take (at .demands) input) (take (at .words - at .demands) (drop (at .demands) input)) (take (length input - at .words) (drop (at .words) input))
+    pub lent-back : P (at .links) (at .steps) (take (at .demands) input) (take (at .recorded - at .demands) (drop (at .demands) input)) (take (length input - at .recorded) (drop (at .recorded) input))
         → P (linksIn input) (stepsIn input) (corridorFile input) (demandsFile input) (recordFile input)
     lent-back h = coe 0 1 (z. parts-are input (at .links) (at .steps) (laid .links) (laid .steps) at laid-again P z) h
 
 -- ---- the cost that an accepted record states
 
 -- low and high are the two words as the code has them
-pub stated-told : (links steps at low high : ℕ) (file : List ℕ) → at ≡ (steps + 1) * ((links + 1) * 4) → low ≡ payloadWord file at → high ≡ payloadWord file (at + 1)
+pub stated-told : (links steps at w low high : ℕ) (file : List ℕ) → at ≡ (steps + 1) * w → w ≡ suc links * recordWidth → low ≡ payloadWord file at → high ≡ payloadWord file (at + 1)
     → high * 4294967296 + low ≡ statedCost links steps file
-stated-told links steps at low high file e l h =
-    let p : at ≡ traceLength links steps = omega arith in
+stated-told links steps at w low high file e q l h =
+    let p : at ≡ traceLength recordWidth links steps = omega (arith, ap (λ (x : ℕ). (steps + 1) * x) q) in
     ap₂ (λ (x y : ℕ). x * 4294967296 + y) (h ∙ ap (λ (n : ℕ). payloadWord file (n + 1)) p) (l ∙ ap (payloadWord file) p)
 
-pub cost-stated : (links steps : ℕ) (corridor demands words : List ℕ) → FilesFit links steps corridor demands words → Accepts links steps corridor demands words
-    → statedCost links steps words
+pub cost-stated : (links steps : ℕ) (corridor demands recorded : List ℕ) → FilesFit links steps corridor demands recorded → Accepts links steps corridor demands recorded
+    → statedCost links steps recorded
     ≡ cost (roadOf (corridorIn links corridor) (demandsIn links steps demands))
-    (traceOf (roadOf (corridorIn links corridor) (demandsIn links steps demands)) (recordIn links steps words))
+    (traceOf recordWidth (roadOf (corridorIn links corridor) (demandsIn links steps demands)) (recordIn recordWidth links steps recorded))
 unfolding roadOf
-cost-stated links steps corridor demands words fit accepted =
+cost-stated links steps corridor demands recorded fit accepted =
     let road : Road = roadOf (corridorIn links corridor) (demandsIn links steps demands) in
-    let total : ℕ = cost road (traceOf road (recordIn links steps words)) in
-    let costs = judged-iff road (recordIn links steps words) .0 (accepted .judges) .costs in
-    let place : traceLength links steps ≡ traceLength (linksOf (corridorIn links corridor)) (stepsOf (demandsIn links steps demands)) =
-    sym (ap₂ traceLength (own-links links steps corridor demands words fit) (own-steps links steps corridor demands words fit)) in
-    let low : payloadWord words (traceLength links steps) ≡ total % 4294967296 =
-    sym (tabulate-at (recordLength links steps) (payloadWord words) (traceLength links steps) 0 (omega arith))
-    ∙ ap (λ (n : ℕ). getD (recordIn links steps words) n 0) place
+    let total : ℕ = cost road (traceOf recordWidth road (recordIn recordWidth links steps recorded)) in
+    let costs = judged-iff recordWidth road (recordIn recordWidth links steps recorded) .0 (accepted .judges) .costs in
+    let place : traceLength recordWidth links steps ≡ traceLength (linksOf (corridorIn links corridor)) (stepsOf (demandsIn links steps demands)) =
+    sym (ap₂ (traceLength recordWidth) (own-links links steps corridor demands recorded fit) (own-steps links steps corridor demands recorded fit)) in
+    let low : payloadWord recorded (traceLength recordWidth links steps) ≡ total % 4294967296 =
+    sym (tabulate-at (recordLength recordWidth links steps) (payloadWord recorded) (traceLength recordWidth links steps) 0 (omega arith))
+    ∙ ap (λ (n : ℕ). getD (recordIn recordWidth links steps recorded) n 0) place
     ∙ costs .low in
-    let high : payloadWord words (traceLength links steps + 1) ≡ total / 4294967296 =
-    sym (tabulate-at (recordLength links steps) (payloadWord words) (traceLength links steps + 1) 0 (omega arith))
-    ∙ ap (λ (n : ℕ). getD (recordIn links steps words) (n + 1) 0) place
+    let high : payloadWord recorded (traceLength recordWidth links steps + 1) ≡ total / 4294967296 =
+    sym (tabulate-at (recordLength recordWidth links steps) (payloadWord recorded) (traceLength recordWidth links steps + 1) 0 (omega arith))
+    ∙ ap (λ (n : ℕ). getD (recordIn recordWidth links steps recorded) (n + 1) 0) place
     ∙ costs .high in
     omega arith

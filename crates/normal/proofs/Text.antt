@@ -18,12 +18,11 @@ use Rattle.road.specs.declared.Speed.{Speed}
 use Rattle.road.specs.Run.{cost}
 use Rattle.settings.specs.declared.Setting.{Setting}
 use Rattle.settings.specs.declared.Setting.the-variants.{Full, Held}
-use Rattle.lists.specs.Words.{nodeAt, roadOf, traceOf}
+use Rattle.lists.specs.Words.{nodeAt, roadOf, recordWidth, traceOf}
 use Rattle.convert.specs.Convert.{settingAt}
-use Rattle.files.specs.Files.{corridorIn, demandsIn, recordIn}
 use Rattle.normal.specs.declared.inner.input.Layout.{Layout}
 use Rattle.normal.specs.Input.{linksIn, stepsIn, corridorFile, demandsFile, recordFile}
-use Rattle.normal.specs.Text.{decimalIn, decimal, spaced, planWord, letter, inputRoad, inputTrace, headLine, settingLine, planLine}
+use Rattle.normal.specs.Text.{decimalIn, decimal, spaced, planWord, letter, inputRoad, inputTrace, headLine, settingLine, filesLine, planLine}
 use Rattle.normal.specs.Fits.{Laid, statedCost, Put}
 use Rattle.normal.proofs.Input.{Kept, lent-back, cost-stated}
 
@@ -152,30 +151,27 @@ module _ (text : List ℕ) (step identifier number full : ℕ) (setting : Settin
   held-line held s t = t ∙ (λ z. settingLine step (e z) full (sym s z))
 
 -- the corridor's words are unpacked into a list
-pub line-read : (text list corridor demands words : List ℕ) (k i : ℕ) (setting : Setting) → corridor ≡ list
-    → setting ≡ settingAt (roadOf list demands) (traceOf (roadOf list demands) words) k i
+pub line-read : (text list corridor demands recorded : List ℕ) (k i : ℕ) (setting : Setting) → corridor ≡ list
+    → setting ≡ settingAt (roadOf list demands) (traceOf recordWidth (roadOf list demands) recorded) k i
     → text ≡ settingLine k (nodeAt list i .identifier) (nodeAt list i .link .fullSpeed) setting
     → text
-    ≡ settingLine k (nodeAt corridor i .identifier) (nodeAt corridor i .link .fullSpeed) (settingAt (roadOf corridor demands) (traceOf (roadOf corridor demands) words) k i)
-line-read text list corridor demands words k i setting e s t =
+    ≡ settingLine k (nodeAt corridor i .identifier) (nodeAt corridor i .link .fullSpeed) (settingAt (roadOf corridor demands) (traceOf recordWidth (roadOf corridor demands) recorded) k i)
+line-read text list corridor demands recorded k i setting e s t =
     t
     ∙ ap (settingLine k (nodeAt list i .identifier) (nodeAt list i .link .fullSpeed)) s
     ∙ ap
     (λ (x : List ℕ).
-    settingLine k (nodeAt x i .identifier) (nodeAt x i .link .fullSpeed) (settingAt (roadOf x demands) (traceOf (roadOf x demands) words) k i))
+    settingLine k (nodeAt x i .identifier) (nodeAt x i .link .fullSpeed) (settingAt (roadOf x demands) (traceOf recordWidth (roadOf x demands) recorded) k i))
     (sym e)
 
 -- a text is the line of node i at step k of three files
 abbrev pub LineOf : List ℕ → ℕ → ℕ → ℕ → ℕ → List ℕ → List ℕ → List ℕ → Type 0
-LineOf text k i n s corridor demands words =
-    text
-    ≡ settingLine k (nodeAt (corridorIn n corridor) i .identifier) (nodeAt (corridorIn n corridor) i .link .fullSpeed)
-    (settingAt (roadOf (corridorIn n corridor) (demandsIn n s demands)) (traceOf (roadOf (corridorIn n corridor) (demandsIn n s demands)) (recordIn n s words)) k i)
+LineOf text k i n s corridor demands recorded = text ≡ filesLine n s corridor demands recorded k i
 
 -- ---- the lines of an accepted input: text is what the code put out of the files as it lends them
 
 module _ (input : List ℕ) (kept : Kept input) (at : Layout) (laid : Laid (linksIn input) (stepsIn input) at) (text : List ℕ) where
-  pub head-told : (total : ℕ) → total ≡ statedCost (at .links) (at .steps) (take (length input - at .words) (drop (at .words) input))
+  pub head-told : (total : ℕ) → total ≡ statedCost (at .links) (at .steps) (take (length input - at .recorded) (drop (at .recorded) input))
       → text ≡ planWord ++ (spaced (at .steps) ++ (spaced (at .links + 1) ++ (spaced total ++ (10 ∷ []))))
       → text ≡ headLine input
   unfolding headLine inputRoad inputTrace
@@ -185,7 +181,7 @@ module _ (input : List ℕ) (kept : Kept input) (at : Layout) (laid : Laid (link
       ∙ cost-stated (linksIn input) (stepsIn input) (corridorFile input) (demandsFile input) (recordFile input) (kept .fit) (kept .accepted) in
       t ∙ (λ z. planWord ++ (spaced (laid .steps z) ++ (spaced (laid .links z + 1) ++ (spaced (same z) ++ (10 ∷ [])))))
 
-  pub plan-told : (k i : ℕ) → LineOf text k i (at .links) (at .steps) (take (at .demands) input) (take (at .words - at .demands) (drop (at .demands) input)) (take (length input - at .words) (drop (at .words) input))
+  pub plan-told : (k i : ℕ) → LineOf text k i (at .links) (at .steps) (take (at .demands) input) (take (at .recorded - at .demands) (drop (at .demands) input)) (take (length input - at .recorded) (drop (at .recorded) input))
       → text ≡ planLine input k i
-  unfolding planLine inputRoad inputTrace roadOf
+  unfolding planLine filesLine inputRoad inputTrace roadOf
   plan-told k i e = lent-back input kept at laid (LineOf text k i) e

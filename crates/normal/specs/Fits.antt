@@ -7,7 +7,7 @@ use lib.Dec.{leb, eqb}
 use lib.ListN.{length, take}
 use Rattle.tables.specs.declared.Answer.{Answer}
 use Rattle.tables.specs.Answer.{orElse, sized}
-use Rattle.lists.specs.Words.{corridorLength, demandsLength, traceLength, recordLength}
+use Rattle.lists.specs.Words.{recordWidth, corridorLength, demandsLength, traceLength, recordLength}
 use Rattle.faults.specs.Lists.{within}
 use Rattle.payload.specs.File.{blocksFor, payloadWord}
 use Rattle.payload.specs.Reading.{tested}
@@ -35,13 +35,13 @@ pub record Laid (n k : ℕ) (layout : Layout) : Type 0 where
   pub links : layout .links ≡ n
   pub steps : layout .steps ≡ k
   pub demands : layout .demands ≡ blocksFor (corridorLength n) * 512
-  pub words : layout .words ≡ (blocksFor (corridorLength n) + blocksFor (demandsLength n k)) * 512
-  pub end : layout .end ≡ (blocksFor (corridorLength n) + blocksFor (demandsLength n k) + blocksFor (recordLength n k)) * 512
+  pub recorded : layout .recorded ≡ (blocksFor (corridorLength n) + blocksFor (demandsLength n k)) * 512
+  pub end : layout .end ≡ (blocksFor (corridorLength n) + blocksFor (demandsLength n k) + blocksFor (recordLength recordWidth n k)) * 512
 
 -- ---- the cost that a record's file states, in the two words after those of all states
 
 abbrev pub statedCost : ℕ → ℕ → List ℕ → ℕ
-statedCost links steps file = payloadWord file (traceLength links steps + 1) * 4294967296 + payloadWord file (traceLength links steps)
+statedCost links steps file = payloadWord file (traceLength recordWidth links steps + 1) * 4294967296 + payloadWord file (traceLength recordWidth links steps)
 
 -- ---- text
 

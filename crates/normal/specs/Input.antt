@@ -5,7 +5,7 @@ use lib.Dec.{leb, eqb}
 use lib.ListN.{length, take, drop}
 use Rattle.tables.specs.declared.Answer.{Answer}
 use Rattle.tables.specs.Answer.{orElse, sized}
-use Rattle.lists.specs.Words.{corridorLength, demandsLength, recordLength}
+use Rattle.lists.specs.Words.{recordWidth, corridorLength, demandsLength, recordLength}
 use Rattle.faults.specs.Lists.{within}
 use Rattle.payload.specs.File.{blocksFor, wordIn}
 use Rattle.payload.specs.Reading.{tested}
@@ -28,7 +28,7 @@ unfoldable pub recordBlock : List ℕ → ℕ
 recordBlock input = demandsBlock input + blocksFor (demandsLength (linksIn input) (stepsIn input))
 
 unfoldable pub endBlock : List ℕ → ℕ
-endBlock input = recordBlock input + blocksFor (recordLength (linksIn input) (stepsIn input))
+endBlock input = recordBlock input + blocksFor (recordLength recordWidth (linksIn input) (stepsIn input))
 
 -- ---- the three files
 

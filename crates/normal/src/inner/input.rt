@@ -20,7 +20,7 @@ pub struct Layout {
     pub links: u32,
     pub steps: u32,
     pub demands: usize,
-    pub words: usize,
+    pub recorded: usize,
     pub end: usize,
 }
 
@@ -49,13 +49,13 @@ fn layout_of(n: u32, k: u32) -> Layout
     ensures { λ r. ⌜ Laid n k r ⌝ }
 {
     let demands = blocks_of(Kind::Corridor, n, k) * 512;
-    let words = demands + blocks_of(Kind::Demands, n, k) * 512;
-    let end = words + blocks_of(Kind::Record, n, k) * 512;
+    let recorded = demands + blocks_of(Kind::Demands, n, k) * 512;
+    let end = recorded + blocks_of(Kind::Record, n, k) * 512;
     Layout {
         links: n,
         steps: k,
         demands,
-        words,
+        recorded,
         end,
     }
 }
@@ -78,14 +78,14 @@ fn files_left(input: &[u8], n: u32, k: u32) -> Answer
 {
     let at = layout_of(n, k);
     let demands = at.demands;
-    let words = at.words;
+    let recorded = at.recorded;
     if input.len() == at.end {
         return answers::read_then_check(
             n,
             k,
             &input[..demands],
-            &input[demands..words],
-            &input[words..],
+            &input[demands..recorded],
+            &input[recorded..],
         );
     }
     refused(14)

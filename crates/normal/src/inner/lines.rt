@@ -1,19 +1,18 @@
 // The lines that the program prints, each put into a lent buffer of 128 bytes; the answer is the line's length.
 ghost use mathlib.Core.Path.{_≡_};
 ghost use mathlib.Core.List.{List, [], _∷_, _++_};
-ghost use Prim.Native.Nat.{ℕ, _+_, _*_, _≤_, _<_};
+ghost use Prim.Native.Nat.{ℕ, _≤_, _<_};
 ghost use lib.ListN.{length, take};
 ghost use Rattle.io.specs.Counts.{Counts};
 ghost use Rattle.tables.specs.declared.Answer.the-variants.{Accepted};
-ghost use Rattle.lists.specs.Words.{nodeAt, roadOf, traceOf, demandsLength, recordLength};
+ghost use Rattle.lists.specs.Words.{nodeAt, roadOf, recordWidth, traceOf, recordLength};
+ghost use Rattle.lists.specs.Fits.{NodeFits};
 ghost use Rattle.convert.specs.Convert.{settingAt};
-ghost use Rattle.convert.specs.Refusals.{judged};
-ghost use Rattle.convert.specs.Rows.{Ready};
-ghost use Rattle.files.specs.Files.{corridorIn, demandsIn, recordIn};
-ghost use Rattle.files.specs.Fits.{Holds, FilesFit, Accepts};
+ghost use Rattle.files.specs.Files.{demandsIn, recordIn};
+ghost use Rattle.files.specs.Fits.{Holds, FilesFit, Accepts, FilesKept};
 ghost use Rattle.normal.specs.Input.{linksIn, stepsIn, inputAnswer};
 ghost use Rattle.normal.specs.Fits.{statedCost};
-ghost use Rattle.normal.specs.Text.{decimal, spaced, planWord, refusedLine, headLine, settingLine, planLine, printed};
+ghost use Rattle.normal.specs.Text.{decimal, spaced, planWord, refusedLine, headLine, settingLine, filesLine, planLine, printed};
 use crate::inner::input;
 use crate::inner::text;
 use files::inner::unpacked;
@@ -45,13 +44,14 @@ pub fn long_line(out: &mut [u8]) -> usize
 }
 
 // The cost that a record states in its two last words.
-fn stated_cost(links: usize, steps: usize, words: &[u8]) -> u64
-    requires { ⌜ (links ≤ 64) × (steps ≤ 1440) × Holds (recordLength links steps) (now words) ⌝ }
-    ensures { λ r. ⌜ r ≡ statedCost links steps (now (words .entry)) ⌝ }
+fn stated_cost(links: usize, steps: usize, recorded: &[u8]) -> u64
+    requires { ⌜ (links ≤ 64) × (steps ≤ 1440) × Holds (recordLength recordWidth links steps) (now recorded) ⌝ }
+    ensures { λ r. ⌜ r ≡ statedCost links steps (now (recorded .entry)) ⌝ }
 {
-    let at = scans::table_length(steps + 1, (links + 1) * 4);
-    let low = place::word_of(words, at);
-    let high = place::word_of(words, at + 1);
+    let wide = scans::state_words(links, words::RECORD_WIDTH);
+    let at = scans::table_length(steps + 1, wide);
+    let low = place::word_of(recorded, at);
+    let high = place::word_of(recorded, at + 1);
     (high as u64) * 4294967296 + (low as u64)
 }
 
@@ -76,8 +76,8 @@ pub fn head_line(input: &[u8], out: &mut [u8]) -> usize
     ensures { λ r. ⌜ Counts r (now (out .exit)) ⌝ }
 {
     let at = input::layout_in(input);
-    let words = at.words;
-    let total = stated_cost(at.links as usize, at.steps as usize, &input[words..]);
+    let recorded = at.recorded;
+    let total = stated_cost(at.links as usize, at.steps as usize, &input[recorded..]);
     put_head(at.steps as u64, at.links as u64 + 1, total, out)
 }
 
@@ -103,7 +103,7 @@ fn put_fields(
 
 // The line of node i at a step, with its setting: F where it is full, H where it is held.
 fn node_line(corridor: &[u32], i: usize, step: u64, setting: Setting, out: &mut [u8]) -> usize
-    requires { ⌜ 1 + (i * 9 + 9) ≤ length (now corridor) ⌝ }
+    requires { ⌜ NodeFits (now corridor) i ⌝ }
     requires { ⌜ length (now out) ≡ 128 ⌝ }
     ensures { λ r. ⌜ take r (now (out .exit)) ≡ settingLine step (nodeAt (now (corridor .entry)) i .identifier) (nodeAt (now (corridor .entry)) i .link .fullSpeed) setting ⌝ }
     ensures { λ r. ⌜ Counts r (now (out .exit)) ⌝ }
@@ -125,25 +125,24 @@ fn setting_of(
     demands: &[u8],
     links: usize,
     steps: usize,
-    words: &[u8],
+    recorded: &[u8],
     k: usize,
     i: usize,
 ) -> Setting
-    requires { ⌜ Ready (now corridor) (demandsIn links steps (now demands)) (recordIn links steps (now words)) links steps ⌝ }
-    requires { ⌜ Holds (demandsLength links steps) (now demands) × Holds (recordLength links steps) (now words) ⌝ }
-    requires { ⌜ judged (roadOf (now corridor) (demandsIn links steps (now demands))) (recordIn links steps (now words)) ≡ Accepted ⌝ }
+    requires { ⌜ FilesKept links steps (now corridor) (now demands) (now recorded) ⌝ }
     requires { ⌜ (k < steps) × (i ≤ links) ⌝ }
-    ensures { λ r. ⌜ r ≡ settingAt (roadOf (now (corridor .entry)) (demandsIn links steps (now (demands .entry)))) (traceOf (roadOf (now (corridor .entry)) (demandsIn links steps (now (demands .entry)))) (recordIn links steps (now (words .entry)))) k i ⌝ }
+    ensures { λ r. ⌜ r ≡ settingAt (roadOf (now (corridor .entry)) (demandsIn links steps (now (demands .entry)))) (traceOf recordWidth (roadOf (now (corridor .entry)) (demandsIn links steps (now (demands .entry)))) (recordIn recordWidth links steps (now (recorded .entry)))) k i ⌝ }
 {
+    let width = words::RECORD_WIDTH;
     let narrow = (links + 1) * 2;
-    let wide = (links + 1) * 4;
+    let wide = scans::state_words(links, width);
     let mut demand_room = [0u32; 130];
     let demand = &mut demand_room[..narrow];
-    unpacked::demand_words(demands, links, steps, k, demand);
     let mut room = [0u32; 260];
     let row = &mut room[..wide];
-    unpacked::state_words(words, links, steps, k, row);
-    convert::inner::plans::setting_at(corridor, links, demand, row, i)
+    unpacked::step_rows(demands, recorded, links, steps, k, demand, row);
+    let downstream = words::downstream();
+    convert::inner::plans::setting_at(corridor, links, demand, downstream, row, width, i)
 }
 
 // The line of node i at step k, out of the files.
@@ -152,22 +151,22 @@ fn files_line(
     steps: usize,
     corridor: &[u8],
     demands: &[u8],
-    words: &[u8],
+    recorded: &[u8],
     k: usize,
     i: usize,
     out: &mut [u8],
 ) -> usize
-    requires { ⌜ FilesFit links steps (now corridor) (now demands) (now words) ⌝ }
-    requires { ⌜ Accepts links steps (now corridor) (now demands) (now words) ⌝ }
+    requires { ⌜ FilesFit links steps (now corridor) (now demands) (now recorded) ⌝ }
+    requires { ⌜ Accepts links steps (now corridor) (now demands) (now recorded) ⌝ }
     requires { ⌜ (k < steps) × (i ≤ links) × (length (now out) ≡ 128) ⌝ }
-    ensures { λ r. ⌜ take r (now (out .exit)) ≡ settingLine k (nodeAt (corridorIn links (now (corridor .entry))) i .identifier) (nodeAt (corridorIn links (now (corridor .entry))) i .link .fullSpeed) (settingAt (roadOf (corridorIn links (now (corridor .entry))) (demandsIn links steps (now (demands .entry)))) (traceOf (roadOf (corridorIn links (now (corridor .entry))) (demandsIn links steps (now (demands .entry)))) (recordIn links steps (now (words .entry)))) k i) ⌝ }
+    ensures { λ r. ⌜ take r (now (out .exit)) ≡ filesLine links steps (now (corridor .entry)) (now (demands .entry)) (now (recorded .entry)) k i ⌝ }
     ensures { λ r. ⌜ Counts r (now (out .exit)) ⌝ }
 {
     let count = 1 + (links + 1) * 9;
     let mut room = [0u32; 586];
     let list = &mut room[..count];
     place::unpack(corridor, 0, list);
-    let setting = setting_of(list, demands, links, steps, words, k, i);
+    let setting = setting_of(list, demands, links, steps, recorded, k, i);
     node_line(list, i, k as u64, setting, out)
 }
 
@@ -180,13 +179,13 @@ pub fn plan_line(input: &[u8], k: usize, i: usize, out: &mut [u8]) -> usize
 {
     let at = input::layout_in(input);
     let demands = at.demands;
-    let words = at.words;
+    let recorded = at.recorded;
     files_line(
         at.links as usize,
         at.steps as usize,
         &input[..demands],
-        &input[demands..words],
-        &input[words..],
+        &input[demands..recorded],
+        &input[recorded..],
         k,
         i,
         out,

@@ -2,8 +2,8 @@
 use native.Mathlib.Omega.{arith}
 use lib.ListN.{length-take}
 use borrow.Author.Needs.{needs}
+use Rattle.lists.proofs.Words.{record-wide}
 use Rattle.files.proofs.Rows.{state-length, cost-found}
-use Rattle.files.proofs.Plans.{record-wide}
 use Rattle.files.proofs.inner.rows.cost_at.Statement.{statement}
 use Rattle.files.proofs.inner.rows.cost_at.Tie as tie
 

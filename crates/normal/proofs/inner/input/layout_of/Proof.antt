@@ -12,7 +12,7 @@ returns c =
     let third = c .blocks-of3 .ensures .0 in
     let second = c .before .blocks-of2 .ensures .0 in
     let first = c .before .before .blocks-of .ensures .0 in
-    record { links = refl; steps = refl; demands = omega arith; words = omega arith; end = omega arith }
+    record { links = refl; steps = refl; demands = omega arith; recorded = omega arith; end = omega arith }
 
 pub layout-of-spec : {M : Type 1} → statement M
 layout-of-spec =

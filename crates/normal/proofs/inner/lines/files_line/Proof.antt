@@ -2,7 +2,8 @@
 use native.Mathlib.Omega.{arith}
 use lib.ListN.{length-take}
 use borrow.Author.Needs.{needs}
-use Rattle.files.proofs.Contents.{corridor-read, list-corridor, list-accepts}
+use Rattle.files.proofs.Contents.{corridor-read, list-corridor, list-kept}
+use Rattle.normal.specs.Text.{filesLine}
 use Rattle.normal.proofs.Text.{line-read}
 use Rattle.normal.proofs.inner.lines.files_line.Statement.{statement}
 use Rattle.normal.proofs.inner.lines.files_line.Tie as tie
@@ -12,8 +13,7 @@ setting-of-requires c κs =
     let u = c .before .before .before in
     let k = u .before .before .before .before .before .before .before in
     let fit = k .pre .0 in
-    let accepted = list-accepts _ _ _ _ _ fit _ _ (u .unpack .ensures) (simp length-take (omega (arith, fit .told .linksHigh))) (k .pre .1 .0) in
-    (accepted .0, ((fit .demandsHold, fit .recordHolds), (accepted .1, (k .pre .1 .1 .0, k .pre .1 .1 .1))))
+    (list-kept _ _ _ _ _ fit _ _ (u .unpack .ensures) (simp length-take (omega (arith, fit .told .linksHigh))) (k .pre .1 .0), (k .pre .1 .1 .0, k .pre .1 .1 .1))
 
 node-line-requires : tie.Need-node-line-requires
 node-line-requires c κs =
@@ -23,6 +23,7 @@ node-line-requires c κs =
     (omega (arith, list-corridor _ _ _ _ _ fit _ _ (u .unpack .ensures) (simp length-take (omega (arith, fit .told .linksHigh))) .words, k .pre .1 .1 .1), k .pre .1 .1 .2)
 
 returns : tie.Need-returns
+unfolding filesLine
 returns c =
     let n = c .before .before .before in
     let s = n .before .before .before in

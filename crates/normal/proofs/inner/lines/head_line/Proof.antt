@@ -4,21 +4,21 @@ use native.Mathlib.Omega.{arith}
 use denote.Ref.{now}
 use lib.ListN.{length}
 use borrow.Author.Needs.{needs}
-use Rattle.lists.specs.Words.{recordLength}
+use Rattle.lists.specs.Words.{recordWidth, recordLength}
 use Rattle.files.specs.Fits.{Holds}
 use Rattle.normal.proofs.Input.{input-kept, in-order, lent}
 use Rattle.normal.proofs.Text.{head-told}
 use Rattle.normal.proofs.inner.lines.head_line.Statement.{statement}
 use Rattle.normal.proofs.inner.lines.head_line.Tie as tie
 
-order : (c : tie.After-layout-in) → c .layout-in .result .words ≤ length (now (c .before .before .before .args .input))
+order : (c : tie.After-layout-in) → c .layout-in .result .recorded ≤ length (now (c .before .before .before .args .input))
 order c = in-order _ (input-kept _ (c .before .before .before .pre .0)) _ (c .layout-in .ensures) .1
 
 stated-cost-requires : tie.Need-stated-cost-requires
 stated-cost-requires c κs =
     let l = c .before .before .before in
     let kept = input-kept _ (l .before .before .before .pre .0) in
-    lent _ kept _ (l .layout-in .ensures) (λ n k corridor demands words. (n ≤ 64) × (k ≤ 1440) × Holds (recordLength n k) words)
+    lent _ kept _ (l .layout-in .ensures) (λ n k corridor demands recorded. (n ≤ 64) × (k ≤ 1440) × Holds (recordLength recordWidth n k) recorded)
     (kept .told .linksHigh, kept .told .stepsHigh, kept .fit .recordHolds)
 
 returns : tie.Need-returns

@@ -10,7 +10,7 @@ use Rattle.normal.proofs.Text.{plan-told}
 use Rattle.normal.proofs.inner.lines.plan_line.Statement.{statement}
 use Rattle.normal.proofs.inner.lines.plan_line.Tie as tie
 
-order : (c : tie.After-layout-in) → (c .layout-in .result .demands ≤ c .layout-in .result .words) × (c .layout-in .result .words ≤ length (now (c .before .before .before .args .input)))
+order : (c : tie.After-layout-in) → (c .layout-in .result .demands ≤ c .layout-in .result .recorded) × (c .layout-in .result .recorded ≤ length (now (c .before .before .before .args .input)))
 order c = in-order _ (input-kept _ (c .before .before .before .pre .0)) _ (c .layout-in .ensures)
 
 files-line-requires : tie.Need-files-line-requires
