@@ -7,14 +7,12 @@ use mathlib.Core.List.{List, []}
 use Prim.Native.Nat.{ℕ, _<_}
 use native.Mathlib.Omega.{arith}
 use lib.ListN.{length}
-use Rattle.tables.specs.declared.Answer.{Answer}
 use Rattle.tables.specs.declared.Answer.the-variants.{Refused}
-use Rattle.tables.specs.Answer.{left}
 use Rattle.lists.specs.Words.{linksOf}
 use Rattle.lists.specs.Refusals.{sizes}
 use Rattle.lists.proofs.Limits.{sizes-iff}
-use Rattle.simulate.specs.Simulate.{simulateSizes, simulateAnswer, simulated}
-use Rattle.convert.specs.Convert.{converted, normalForm, checkAnswer, convertAnswer, normalRefusal, normalAnswer}
+use Rattle.simulate.specs.Simulate.{simulateSizes, simulateAnswer, recordLeft}
+use Rattle.convert.specs.Convert.{checkAnswer, convertAnswer, normalRefusal, normalAnswer, planLeft, workLeft, normalLeft}
 use Rattle.nodes.specs.declared.Node.{Node}
 use Rattle.nodes.specs.Nodes.{corridorWords, wordsTaken}
 use Rattle.nodes.proofs.Counts.{none-or-all}
@@ -42,12 +40,16 @@ nodes-fail nodes demands out =
     links-fail (corridorWords nodes) demands
     (⊎-elim (λ (h : length nodes < 2). inl (omega (arith, e))) (λ (h : 65 < length nodes). inr (omega (arith, e))) out)
 
--- ---- wrong lengths: each answer
+-- ---- wrong lengths: each answer, and each lent list as it was
 
 module _ (corridor demands : List ℕ) (e : sizes corridor demands ≡ false) where
   simulate-one : (plan : List ℕ) (room : ℕ) → simulateAnswer corridor demands plan room ≡ Refused 1 0 0
   unfolding simulateAnswer simulateSizes
   simulate-one plan room = rw e refl
+
+  record-kept : (plan lent : List ℕ) → recordLeft corridor demands plan lent ≡ lent
+  unfolding recordLeft
+  record-kept plan lent = rw (simulate-one plan (length lent)) refl
 
   check-one : (words : List ℕ) → checkAnswer corridor demands words ≡ Refused 1 0 0
   unfolding checkAnswer
@@ -57,13 +59,25 @@ module _ (corridor demands : List ℕ) (e : sizes corridor demands ≡ false) wh
   unfolding convertAnswer
   convert-one words room = rw e refl
 
+  plan-kept : (words lent : List ℕ) → planLeft corridor demands words lent ≡ lent
+  unfolding planLeft
+  plan-kept words lent = rw (convert-one words (length lent)) refl
+
   refusal-one : (plan : List ℕ) (work room : ℕ) → normalRefusal corridor demands plan work room ≡ Refused 1 0 0
   unfolding normalRefusal
   refusal-one plan work room = rw e refl
 
+  work-kept : (plan lent : List ℕ) (room : ℕ) → workLeft corridor demands plan lent room ≡ lent
+  unfolding workLeft
+  work-kept plan lent room = rw (refusal-one plan (length lent) room) refl
+
   normal-one : (plan : List ℕ) (work room : ℕ) → normalAnswer corridor demands plan work room ≡ Refused 1 0 0
   unfolding normalAnswer normalRefusal
   normal-one plan work room = rw e refl
+
+  normal-kept : (plan : List ℕ) (work : ℕ) (lent : List ℕ) → normalLeft corridor demands plan work lent ≡ lent
+  unfolding normalLeft
+  normal-kept plan work lent = rw (normal-one plan work (length lent)) refl
 
 -- a length outside 2..65 is refused by 1, whatever the other lists are
 module _ (nodes : List Node) (out : (length nodes < 2) ⊎ (65 < length nodes)) (demands : List ℕ) where
@@ -94,12 +108,8 @@ module _ (nodes : List Node) (demands : List ℕ) where
   pub simulate-answer : (plan : List ℕ) (room : ℕ) → simulateAnswer (wordsTaken nodes) demands plan room ≡ simulateAnswer (corridorWords nodes) demands plan room
   simulate-answer plan room = same (λ c. simulateAnswer c demands plan room) (Refused 1 0 0) demands (λ c e. simulate-one c demands e plan room) nodes
 
-  pub simulate-written : (plan lent : List ℕ)
-      → left (simulateAnswer (wordsTaken nodes) demands plan (length lent)) (simulated (wordsTaken nodes) demands plan) lent
-      ≡ left (simulateAnswer (corridorWords nodes) demands plan (length lent)) (simulated (corridorWords nodes) demands plan) lent
-  simulate-written plan lent =
-      same (λ c. left (simulateAnswer c demands plan (length lent)) (simulated c demands plan) lent) lent demands
-      (λ c e. ap (λ (a : Answer). left a (simulated c demands plan) lent) (simulate-one c demands e plan (length lent))) nodes
+  pub simulate-written : (plan lent : List ℕ) → recordLeft (wordsTaken nodes) demands plan lent ≡ recordLeft (corridorWords nodes) demands plan lent
+  simulate-written plan lent = same (λ c. recordLeft c demands plan lent) lent demands (λ c e. record-kept c demands e plan lent) nodes
 
   pub check-answer : (words : List ℕ) → checkAnswer (wordsTaken nodes) demands words ≡ checkAnswer (corridorWords nodes) demands words
   check-answer words = same (λ c. checkAnswer c demands words) (Refused 1 0 0) demands (λ c e. check-one c demands e words) nodes
@@ -107,26 +117,14 @@ module _ (nodes : List Node) (demands : List ℕ) where
   pub convert-answer : (words : List ℕ) (room : ℕ) → convertAnswer (wordsTaken nodes) demands words room ≡ convertAnswer (corridorWords nodes) demands words room
   convert-answer words room = same (λ c. convertAnswer c demands words room) (Refused 1 0 0) demands (λ c e. convert-one c demands e words room) nodes
 
-  pub convert-written : (words lent : List ℕ)
-      → left (convertAnswer (wordsTaken nodes) demands words (length lent)) (converted (wordsTaken nodes) demands words) lent
-      ≡ left (convertAnswer (corridorWords nodes) demands words (length lent)) (converted (corridorWords nodes) demands words) lent
-  convert-written words lent =
-      same (λ c. left (convertAnswer c demands words (length lent)) (converted c demands words) lent) lent demands
-      (λ c e. ap (λ (a : Answer). left a (converted c demands words) lent) (convert-one c demands e words (length lent))) nodes
+  pub convert-written : (words lent : List ℕ) → planLeft (wordsTaken nodes) demands words lent ≡ planLeft (corridorWords nodes) demands words lent
+  convert-written words lent = same (λ c. planLeft c demands words lent) lent demands (λ c e. plan-kept c demands e words lent) nodes
 
   pub normal-answer : (plan : List ℕ) (work room : ℕ) → normalAnswer (wordsTaken nodes) demands plan work room ≡ normalAnswer (corridorWords nodes) demands plan work room
   normal-answer plan work room = same (λ c. normalAnswer c demands plan work room) (Refused 1 0 0) demands (λ c e. normal-one c demands e plan work room) nodes
 
-  pub normal-worked : (plan lent : List ℕ) (room : ℕ)
-      → left (normalRefusal (wordsTaken nodes) demands plan (length lent) room) (simulated (wordsTaken nodes) demands plan) lent
-      ≡ left (normalRefusal (corridorWords nodes) demands plan (length lent) room) (simulated (corridorWords nodes) demands plan) lent
-  normal-worked plan lent room =
-      same (λ c. left (normalRefusal c demands plan (length lent) room) (simulated c demands plan) lent) lent demands
-      (λ c e. ap (λ (a : Answer). left a (simulated c demands plan) lent) (refusal-one c demands e plan (length lent) room)) nodes
+  pub normal-worked : (plan lent : List ℕ) (room : ℕ) → workLeft (wordsTaken nodes) demands plan lent room ≡ workLeft (corridorWords nodes) demands plan lent room
+  normal-worked plan lent room = same (λ c. workLeft c demands plan lent room) lent demands (λ c e. work-kept c demands e plan lent room) nodes
 
-  pub normal-written : (plan : List ℕ) (work : ℕ) (lent : List ℕ)
-      → left (normalAnswer (wordsTaken nodes) demands plan work (length lent)) (normalForm (wordsTaken nodes) demands plan) lent
-      ≡ left (normalAnswer (corridorWords nodes) demands plan work (length lent)) (normalForm (corridorWords nodes) demands plan) lent
-  normal-written plan work lent =
-      same (λ c. left (normalAnswer c demands plan work (length lent)) (normalForm c demands plan) lent) lent demands
-      (λ c e. ap (λ (a : Answer). left a (normalForm c demands plan) lent) (normal-one c demands e plan work (length lent))) nodes
+  pub normal-written : (plan : List ℕ) (work : ℕ) (lent : List ℕ) → normalLeft (wordsTaken nodes) demands plan work lent ≡ normalLeft (corridorWords nodes) demands plan work lent
+  normal-written plan work lent = same (λ c. normalLeft c demands plan work lent) lent demands (λ c e. normal-kept c demands e plan work lent) nodes

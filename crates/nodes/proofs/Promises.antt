@@ -10,9 +10,8 @@ use contract.Monad.{fact}
 use denote.RattleType.{RattleType}
 use denote.Ref.{now}
 use Rattle.tables.specs.declared.Answer.{Answer}
-use Rattle.tables.specs.Answer.{left}
-use Rattle.simulate.specs.Simulate.{simulateAnswer, simulated}
-use Rattle.convert.specs.Convert.{converted, normalForm, checkAnswer, convertAnswer, normalRefusal, normalAnswer}
+use Rattle.simulate.specs.Simulate.{simulateAnswer, recordLeft}
+use Rattle.convert.specs.Convert.{checkAnswer, convertAnswer, normalAnswer, planLeft, workLeft, normalLeft}
 use Rattle.nodes.proofs.Answers.{simulate-answer, simulate-written, check-answer, convert-answer, convert-written, normal-answer, normal-worked, normal-written}
 use Rattle.nodes.proofs.OnNodes.{Promise, Keeps}
 
@@ -23,7 +22,7 @@ module _ {M : Type 1} (𝓤 : URA M) (S : RattleType) (told : Answer → S .Deno
       let plan : List ℕ = now (y .1 .0) in
       let lent : List ℕ = now (y .1 .1 .0) in
       sep 𝓤 (fact 𝓤 (r ≡ told (simulateAnswer corridor demands plan (length lent))))
-      (fact 𝓤 (now (e .1 .1 .0) ≡ left (simulateAnswer corridor demands plan (length lent)) (simulated corridor demands plan) lent))
+      (fact 𝓤 (now (e .1 .1 .0) ≡ recordLeft corridor demands plan lent))
 
   pub simulates-kept : Keeps 𝓤 3 S simulates
   simulates-kept nodes y r e =
@@ -41,7 +40,7 @@ module _ {M : Type 1} (𝓤 : URA M) (S : RattleType) (told : Answer → S .Deno
       let words : List ℕ = now (y .1 .0) in
       let lent : List ℕ = now (y .1 .1 .0) in
       sep 𝓤 (fact 𝓤 (r ≡ told (convertAnswer corridor demands words (length lent))))
-      (fact 𝓤 (now (e .1 .1 .0) ≡ left (convertAnswer corridor demands words (length lent)) (converted corridor demands words) lent))
+      (fact 𝓤 (now (e .1 .1 .0) ≡ planLeft corridor demands words lent))
 
   pub converts-kept : Keeps 𝓤 3 S converts
   converts-kept nodes y r e =
@@ -54,8 +53,8 @@ module _ {M : Type 1} (𝓤 : URA M) (S : RattleType) (told : Answer → S .Deno
       let work : List ℕ = now (y .1 .1 .0) in
       let lent : List ℕ = now (y .1 .1 .1 .0) in
       sep 𝓤 (fact 𝓤 (r ≡ told (normalAnswer corridor demands plan (length work) (length lent))))
-      (sep 𝓤 (fact 𝓤 (now (e .1 .1 .0) ≡ left (normalRefusal corridor demands plan (length work) (length lent)) (simulated corridor demands plan) work))
-      (fact 𝓤 (now (e .1 .1 .1 .0) ≡ left (normalAnswer corridor demands plan (length work) (length lent)) (normalForm corridor demands plan) lent)))
+      (sep 𝓤 (fact 𝓤 (now (e .1 .1 .0) ≡ workLeft corridor demands plan work (length lent)))
+      (fact 𝓤 (now (e .1 .1 .1 .0) ≡ normalLeft corridor demands plan (length work) lent)))
 
   pub normalizes-kept : Keeps 𝓤 4 S normalizes
   normalizes-kept nodes y r e =

@@ -1,9 +1,8 @@
 // The corridor taken as a list of nodes, one record each: each call has the answer and the lent lists of its list version.
 ghost use mathlib.Core.Path.{_≡_};
 ghost use lib.ListN.{length};
-ghost use Rattle.tables.specs.Answer.{left};
-ghost use Rattle.simulate.specs.Simulate.{simulateAnswer, simulated};
-ghost use Rattle.convert.specs.Convert.{converted, normalForm, checkAnswer, convertAnswer, normalRefusal, normalAnswer};
+ghost use Rattle.simulate.specs.Simulate.{simulateAnswer, recordLeft};
+ghost use Rattle.convert.specs.Convert.{checkAnswer, convertAnswer, normalAnswer, planLeft, workLeft, normalLeft};
 ghost use Rattle.nodes.specs.Nodes.{corridorWords};
 use crate::inner::calls;
 use crate::inner::words;
@@ -28,7 +27,7 @@ pub struct Node {
 // The record of a plan.
 pub fn simulate_nodes(nodes: &[Node], demands: &[u32], plan: &[u32], record: &mut [u32]) -> Answer
     ensures answered { λ r. ⌜ r ≡ simulateAnswer (corridorWords (now (nodes .entry))) (now (demands .entry)) (now (plan .entry)) (length (now («record» .entry))) ⌝ }
-    ensures written { λ r. ⌜ now («record» .exit) ≡ left (simulateAnswer (corridorWords (now (nodes .entry))) (now (demands .entry)) (now (plan .entry)) (length (now («record» .entry)))) (simulated (corridorWords (now (nodes .entry))) (now (demands .entry)) (now (plan .entry))) (now («record» .entry)) ⌝ }
+    ensures written { λ r. ⌜ now («record» .exit) ≡ recordLeft (corridorWords (now (nodes .entry))) (now (demands .entry)) (now (plan .entry)) (now («record» .entry)) ⌝ }
 {
     calls::simulate_words(words::words_of_nodes(nodes), demands, plan, record)
 }
@@ -43,7 +42,7 @@ pub fn check_nodes(nodes: &[Node], demands: &[u32], record: &[u32]) -> Answer
 // Checks a proposed record and writes the plan that has it.
 pub fn convert_nodes(nodes: &[Node], demands: &[u32], record: &[u32], plan: &mut [u32]) -> Answer
     ensures answered { λ r. ⌜ r ≡ convertAnswer (corridorWords (now (nodes .entry))) (now (demands .entry)) (now («record» .entry)) (length (now (plan .entry))) ⌝ }
-    ensures written { λ r. ⌜ now (plan .exit) ≡ left (convertAnswer (corridorWords (now (nodes .entry))) (now (demands .entry)) (now («record» .entry)) (length (now (plan .entry)))) (converted (corridorWords (now (nodes .entry))) (now (demands .entry)) (now («record» .entry))) (now (plan .entry)) ⌝ }
+    ensures written { λ r. ⌜ now (plan .exit) ≡ planLeft (corridorWords (now (nodes .entry))) (now (demands .entry)) (now («record» .entry)) (now (plan .entry)) ⌝ }
 {
     calls::convert_words(words::words_of_nodes(nodes), demands, record, plan)
 }
@@ -57,8 +56,8 @@ pub fn normal_form_nodes(
     normal: &mut [u32],
 ) -> Answer
     ensures answered { λ r. ⌜ r ≡ normalAnswer (corridorWords (now (nodes .entry))) (now (demands .entry)) (now (plan .entry)) (length (now (work .entry))) (length (now (normal .entry))) ⌝ }
-    ensures worked { λ r. ⌜ now (work .exit) ≡ left (normalRefusal (corridorWords (now (nodes .entry))) (now (demands .entry)) (now (plan .entry)) (length (now (work .entry))) (length (now (normal .entry)))) (simulated (corridorWords (now (nodes .entry))) (now (demands .entry)) (now (plan .entry))) (now (work .entry)) ⌝ }
-    ensures written { λ r. ⌜ now (normal .exit) ≡ left (normalAnswer (corridorWords (now (nodes .entry))) (now (demands .entry)) (now (plan .entry)) (length (now (work .entry))) (length (now (normal .entry)))) (normalForm (corridorWords (now (nodes .entry))) (now (demands .entry)) (now (plan .entry))) (now (normal .entry)) ⌝ }
+    ensures worked { λ r. ⌜ now (work .exit) ≡ workLeft (corridorWords (now (nodes .entry))) (now (demands .entry)) (now (plan .entry)) (now (work .entry)) (length (now (normal .entry))) ⌝ }
+    ensures written { λ r. ⌜ now (normal .exit) ≡ normalLeft (corridorWords (now (nodes .entry))) (now (demands .entry)) (now (plan .entry)) (length (now (work .entry))) (now (normal .entry)) ⌝ }
 {
     calls::normal_form_words(words::words_of_nodes(nodes), demands, plan, work, normal)
 }

@@ -2,9 +2,8 @@
 ghost use mathlib.Core.Path.{_≡_};
 ghost use Prim.Native.Nat.{_≤_};
 ghost use lib.ListN.{length};
-ghost use Rattle.tables.specs.Answer.{left};
-ghost use Rattle.simulate.specs.Simulate.{simulateAnswer, simulated};
-ghost use Rattle.convert.specs.Convert.{converted, normalForm, checkAnswer, convertAnswer, normalRefusal, normalAnswer};
+ghost use Rattle.simulate.specs.Simulate.{simulateAnswer, recordLeft};
+ghost use Rattle.convert.specs.Convert.{checkAnswer, convertAnswer, normalAnswer, planLeft, workLeft, normalLeft};
 ghost use Rattle.nodes.specs.Nodes.{given};
 use crate::inner::words::Words;
 use tables::Answer;
@@ -12,7 +11,7 @@ use tables::Answer;
 pub fn simulate_words(words: Words, demands: &[u32], plan: &[u32], record: &mut [u32]) -> Answer
     requires { ⌜ words .length ≤ 586 ⌝ }
     ensures answered { λ r. ⌜ r ≡ simulateAnswer (given words) (now (demands .entry)) (now (plan .entry)) (length (now («record» .entry))) ⌝ }
-    ensures written { λ r. ⌜ now («record» .exit) ≡ left (simulateAnswer (given words) (now (demands .entry)) (now (plan .entry)) (length (now («record» .entry)))) (simulated (given words) (now (demands .entry)) (now (plan .entry))) (now («record» .entry)) ⌝ }
+    ensures written { λ r. ⌜ now («record» .exit) ≡ recordLeft (given words) (now (demands .entry)) (now (plan .entry)) (now («record» .entry)) ⌝ }
 {
     let length = words.length;
     let at = words.at;
@@ -31,7 +30,7 @@ pub fn check_words(words: Words, demands: &[u32], record: &[u32]) -> Answer
 pub fn convert_words(words: Words, demands: &[u32], record: &[u32], plan: &mut [u32]) -> Answer
     requires { ⌜ words .length ≤ 586 ⌝ }
     ensures answered { λ r. ⌜ r ≡ convertAnswer (given words) (now (demands .entry)) (now («record» .entry)) (length (now (plan .entry))) ⌝ }
-    ensures written { λ r. ⌜ now (plan .exit) ≡ left (convertAnswer (given words) (now (demands .entry)) (now («record» .entry)) (length (now (plan .entry)))) (converted (given words) (now (demands .entry)) (now («record» .entry))) (now (plan .entry)) ⌝ }
+    ensures written { λ r. ⌜ now (plan .exit) ≡ planLeft (given words) (now (demands .entry)) (now («record» .entry)) (now (plan .entry)) ⌝ }
 {
     let length = words.length;
     let at = words.at;
@@ -47,8 +46,8 @@ pub fn normal_form_words(
 ) -> Answer
     requires { ⌜ words .length ≤ 586 ⌝ }
     ensures answered { λ r. ⌜ r ≡ normalAnswer (given words) (now (demands .entry)) (now (plan .entry)) (length (now (work .entry))) (length (now (normal .entry))) ⌝ }
-    ensures worked { λ r. ⌜ now (work .exit) ≡ left (normalRefusal (given words) (now (demands .entry)) (now (plan .entry)) (length (now (work .entry))) (length (now (normal .entry)))) (simulated (given words) (now (demands .entry)) (now (plan .entry))) (now (work .entry)) ⌝ }
-    ensures written { λ r. ⌜ now (normal .exit) ≡ left (normalAnswer (given words) (now (demands .entry)) (now (plan .entry)) (length (now (work .entry))) (length (now (normal .entry)))) (normalForm (given words) (now (demands .entry)) (now (plan .entry))) (now (normal .entry)) ⌝ }
+    ensures worked { λ r. ⌜ now (work .exit) ≡ workLeft (given words) (now (demands .entry)) (now (plan .entry)) (now (work .entry)) (length (now (normal .entry))) ⌝ }
+    ensures written { λ r. ⌜ now (normal .exit) ≡ normalLeft (given words) (now (demands .entry)) (now (plan .entry)) (length (now (work .entry))) (now (normal .entry)) ⌝ }
 {
     let length = words.length;
     let at = words.at;
