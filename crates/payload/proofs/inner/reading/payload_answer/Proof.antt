@@ -5,6 +5,9 @@ use Rattle.payload.proofs.Refusals.{length-kept, length-wrong, blocks-w
 use Rattle.payload.proofs.inner.reading.payload_answer.Statement.{statement}
 use Rattle.payload.proofs.inner.reading.payload_answer.Tie as tie
 
+blocks-answer-requires : tie.Need-blocks-answer-requires
+blocks-answer-requires c κs = (search (length-kept, told-accepted), search needs)
+
 pub payload-answer-spec : {M : Type 1} → statement M
 payload-answer-spec =
     tie.close
@@ -14,7 +17,7 @@ payload-answer-spec =
     (λ c κs. search needs)
     (λ c κs. search needs)
     (λ c. search (length-wrong, told-refused))
-    (λ c κs. (search (length-kept, told-accepted), search needs))
+    blocks-answer-requires
     (λ c κs. search needs)
     (λ c. search (blocks-wrong, told-refused, told-accepted))
     (λ c κs. (search (length-kept, told-accepted), search needs, search needs))
