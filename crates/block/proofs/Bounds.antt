@@ -1,4 +1,4 @@
--- Where a call's refusal may stand, whatever it is given: its row is at most 2,998, the blocks of the longest list.
+-- Where a call's refusal may stand, whatever it is given: its number is 1 to 18, its row at most 2,998, the blocks of the longest list.
 use mathlib.Core.Bool.{Bool, true, false, _&&_}
 use mathlib.Core.List.{List}
 use mathlib.Core.Path.{_≡_, refl, sym}
@@ -24,11 +24,11 @@ unfolding readAnswer
 read-bounded kind n k file room = by (toldFits n k) refl
   where
     by : (t : Bool) → toldFits n k ≡ t → Bounded 2998 (readAnswer kind n k file room)
-    by false e = rw e (record { number = omega arith; row = omega arith; node = refl })
+    by false e = rw e (record { number = omega arith; row = omega arith; node = refl; named = λ r. omega arith })
     by true e =
         let l : listLength kind n k ≤ 374662 = length-high kind n k (told-is n k true (sym e) refl) in
         let f = file-bounded kind n k file in
-        orElse-bounded 2998 _ _ (tested-bounded 2998 (toldFits n k && eqb room (listLength kind n k)) 1 0 (omega arith) (omega arith)) (record { number = f .number; row = omega (arith, f .row); node = f .node })
+        orElse-bounded 2998 _ _ (tested-bounded 2998 (toldFits n k && eqb room (listLength kind n k)) 1 0 (omega arith) (omega arith)) (record { number = f .number; row = omega (arith, f .row); node = f .node; named = f .named })
 
 pub write-bounded : (kind : Kind) (n k : ℕ) (words : List ℕ) (room : ℕ) → Bounded 0 (writeAnswer kind n k words room)
 unfolding writeAnswer

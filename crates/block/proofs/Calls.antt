@@ -1,18 +1,18 @@
 -- What a reader and a writer answer: each case as a branch of the code meets it, and what an accepted call keeps.
 use mathlib.Core.Bool.{Bool, true, false, _&&_}
 use mathlib.Core.List.{List}
-use mathlib.Core.Logic.{_↔_, _≢_}
+use mathlib.Core.Logic.{_↔_}
 use mathlib.Core.Path.{_≡_, refl, sym, ap, _∙_}
 use Prim.Native.Nat.{ℕ, suc, _+_, _*_, _≤_}
 use native.Mathlib.Nat.{mul-le-mul}
 use native.Mathlib.Omega.{arith}
-use borrow.Author.Tests.{eq-eqb, ne-eqb, eqb-true, leb-true}
+use borrow.Author.Tests.{eq-eqb, eqb-true, leb-true}
 use lib.Dec.{eqb, leb}
 use lib.ListN.{length, getD}
 use Rattle.tables.specs.declared.Answer.{Answer}
-use Rattle.tables.specs.declared.Answer.the-variants.{Accepted, Refused}
+use Rattle.tables.specs.declared.Answer.the-variants.{Accepted}
 use Rattle.tables.specs.Answer.{orElse, sized}
-use Rattle.tables.proofs.Answers.{Refuses, orElse-accepts, orElse-refuses, left-refused, left-accepted}
+use Rattle.tables.proofs.Answers.{Refuses, orElse-accepts, orElse-refuses, or-else-stop, or-else-next, left-refused, left-accepted}
 use Rattle.tables.proofs.Tests.{and-iff}
 use Rattle.faults.specs.Lists.{within}
 use Rattle.lists.proofs.Limits.{sized-iff}
@@ -41,6 +41,20 @@ told-is n k b e h =
       stepsLow = leb-true 1 k (steps .0);
       stepsHigh = leb-true k 1440 (steps .1);
     }
+
+-- s is what it answered
+pub told-sized : (n k : ℕ) (b : Bool) (s : Answer) → b ≡ toldFits n k → s ≡ sized b → s ≡ Accepted → Told n k
+told-sized n k b s q x h = told-is n k b q (sized-iff b .0 (sym x ∙ h))
+
+-- one test, then another
+sized-both : (b c : Bool) (a : Answer) → orElse (sized (b && c)) a ≡ orElse (sized b) (orElse (sized c) a)
+sized-both true c a = refl
+sized-both false c a = refl
+
+sized-all : (b c d : Bool) → sized (b && (c && d)) ≡ orElse (sized b) (orElse (sized c) (sized d))
+sized-all true true d = refl
+sized-all true false d = refl
+sized-all false c d = refl
 
 -- ---- lengths
 
@@ -78,29 +92,27 @@ module _ (kind : Kind) (n k : ℕ) (file : List ℕ) (number m : ℕ) (a : Answe
   pub file-room : a ≡ Accepted → 1 ≤ m → 512 ≤ length file
   file-room h l = let r : length file ≡ blocksFor m * 512 = payload-kept number m file .0 (sym p ∙ h) .room in omega arith
 
-  module _ (h : a ≡ Accepted) (w : ℕ) (e : w ≡ payloadWord file 0) (b : Bool) (q : b ≡ ownAgrees kind n k w) where
-    own : fileAnswer kind n k file ≡ sized b
-    own = file-rest ∙ rw (h, ← e, ← q)
+  pub own-told : a ≡ Accepted → (w : ℕ) → w ≡ payloadWord file 0 → (b : Bool) → b ≡ ownAgrees kind n k w → (r : Answer) → r ≡ sized b → r ≡ fileAnswer kind n k file
+  own-told h w e b q r s = s ∙ sym (file-rest ∙ rw (h, ← e, ← q))
 
-    pub own-agrees : b ≡ true → Accepted ≡ fileAnswer kind n k file
-    own-agrees t = sym (own ∙ ap sized t)
-
-    pub own-differs : b ≡ false → Refused 1 0 0 ≡ fileAnswer kind n k file
-    own-differs t = sym (own ∙ ap sized t)
-
-module _ (kind : Kind) (n k : ℕ) (file : List ℕ) (room : ℕ) (b : Bool) (q : b ≡ toldFits n k) where
-  pub read-told-wrong : b ≡ false → Refused 1 0 0 ≡ readAnswer kind n k file room
+-- b is whether N and K are good as a call told it, s what that answered, and z what the test of the room answered
+module _ (kind : Kind) (n k : ℕ) (file : List ℕ) (room : ℕ) (b : Bool) (q : b ≡ toldFits n k) (s : Answer) (x : s ≡ sized b) where
+  read-rest : readAnswer kind n k file room ≡ orElse s (orElse (sized (eqb room (listLength kind n k))) (fileAnswer kind n k file))
   unfolding readAnswer
-  read-told-wrong h = rw (← q, h)
+  read-rest = rw (← q, x) (sized-both b (eqb room (listLength kind n k)) (fileAnswer kind n k file))
 
-  module _ (h : b ≡ true) (m : ℕ) (v : m ≡ listLength kind n k) where
-    pub read-room-wrong : room ≢ m → Refused 1 0 0 ≡ readAnswer kind n k file room
-    unfolding readAnswer
-    read-room-wrong z = rw (← q, h, ← v, ne-eqb room m z)
+  pub read-told-wrong : Refuses s → s ≡ readAnswer kind n k file room
+  read-told-wrong h = or-else-stop s s _ refl h ∙ sym read-rest
 
-    pub read-file : room ≡ m → (a : Answer) → a ≡ fileAnswer kind n k file → a ≡ readAnswer kind n k file room
-    unfolding readAnswer
-    read-file z a p = p ∙ rw (← q, h, ← v, eq-eqb room m z)
+  module _ (h : s ≡ Accepted) (m : ℕ) (v : m ≡ listLength kind n k) (z : Answer) (y : z ≡ sized (eqb room m)) where
+    sized-room : z ≡ sized (eqb room (listLength kind n k))
+    sized-room = y ∙ rw v
+
+    pub read-room-wrong : Refuses z → z ≡ readAnswer kind n k file room
+    read-room-wrong r = or-else-next s z s _ refl h (or-else-stop z _ _ sized-room r) ∙ sym read-rest
+
+    pub read-file : z ≡ Accepted → (a : Answer) → a ≡ fileAnswer kind n k file → a ≡ readAnswer kind n k file room
+    read-file r a p = or-else-next s a s _ refl h (or-else-next z a _ _ sized-room r p) ∙ sym read-rest
 
 -- what an accepted file keeps
 pub record FileKept (kind : Kind) (n k : ℕ) (file : List ℕ) : Type 0 where
@@ -160,26 +172,23 @@ module _ (kind : Kind) (n k : ℕ) (file lent : List ℕ) (a : Answer) (e : a �
 
 -- ---- writing
 
-module _ (kind : Kind) (n k : ℕ) (words : List ℕ) (room : ℕ) (b : Bool) (q : b ≡ toldFits n k) where
-  pub write-told-wrong : b ≡ false → Refused 1 0 0 ≡ writeAnswer kind n k words room
+-- b, s and z as in reading, and f is whether the list fits as a call told it
+module _ (kind : Kind) (n k : ℕ) (words : List ℕ) (room : ℕ) (b : Bool) (q : b ≡ toldFits n k) (s : Answer) (x : s ≡ sized b) where
+  write-rest : (m blocks : ℕ) → m ≡ listLength kind n k → blocks ≡ blocksFor m
+      → writeAnswer kind n k words room ≡ orElse s (orElse (sized (eqb room (blocks * 512))) (sized (eqb (length words) m && ownAgrees kind n k (getD words 0 0))))
   unfolding writeAnswer
-  write-told-wrong h = rw (← q, h)
+  write-rest m blocks v r = rw (← q, ← v, ← r, x) (sized-all b (eqb room (blocks * 512)) (eqb (length words) m && ownAgrees kind n k (getD words 0 0)))
 
-  module _ (h : b ≡ true) (m : ℕ) (v : m ≡ listLength kind n k) (blocks : ℕ) (r : blocks ≡ blocksFor m) where
-    pub write-room-wrong : room ≢ blocks * 512 → Refused 1 0 0 ≡ writeAnswer kind n k words room
-    unfolding writeAnswer
-    write-room-wrong z = rw (← q, h, ← v, ← r, ne-eqb room (blocks * 512) z)
+  pub write-told-wrong : Refuses s → s ≡ writeAnswer kind n k words room
+  write-told-wrong h = or-else-stop s s _ refl h ∙ sym (write-rest _ _ refl refl)
 
-    module _ (z : room ≡ blocks * 512) (f : Bool) (e : f ≡ (eqb (length words) m && ownAgrees kind n k (getD words 0 0))) where
-      list-rest : writeAnswer kind n k words room ≡ sized f
-      unfolding writeAnswer
-      list-rest = rw (← q, h, ← v, ← r, eq-eqb room (blocks * 512) z, e)
+  module _ (h : s ≡ Accepted) (m : ℕ) (v : m ≡ listLength kind n k) (blocks : ℕ) (r : blocks ≡ blocksFor m) (z : Answer) (y : z ≡ sized (eqb room (blocks * 512))) where
+    pub write-room-wrong : Refuses z → z ≡ writeAnswer kind n k words room
+    write-room-wrong w = or-else-next s z s _ refl h (or-else-stop z _ _ y w) ∙ sym (write-rest m blocks v r)
 
-      pub write-list-wrong : f ≡ false → Refused 1 0 0 ≡ writeAnswer kind n k words room
-      write-list-wrong t = sym (list-rest ∙ ap sized t)
-
-      pub write-fits : f ≡ true → Accepted ≡ writeAnswer kind n k words room
-      write-fits t = sym (list-rest ∙ ap sized t)
+    pub write-told : z ≡ Accepted → (f : Bool) → f ≡ (eqb (length words) m && ownAgrees kind n k (getD words 0 0)) → (a : Answer) → a ≡ sized f
+        → a ≡ writeAnswer kind n k words room
+    write-told w f e a p = or-else-next s a s _ refl h (or-else-next z a _ _ y w (p ∙ ap sized e)) ∙ sym (write-rest m blocks v r)
 
 -- what an accepted call keeps
 pub record WriteKept (kind : Kind) (n k : ℕ) (words : List ℕ) (room : ℕ) : Type 0 where

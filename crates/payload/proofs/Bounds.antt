@@ -1,14 +1,14 @@
--- Where a refusal may stand: its number is at most 18, its row at most the number of blocks, its node 0.
-use mathlib.Core.Bool.{Bool, true, false}
+-- Where a refusal may stand: its number is 1 to 18, its row at most the number of blocks, its node 0.
+use mathlib.Core.Bool.{Bool, true, false, true≢false}
 use mathlib.Core.List.{List}
-use mathlib.Core.Path.{_≡_, refl}
+use mathlib.Core.Path.{_≡_, refl, sym}
 use Prim.Native.Nat.{ℕ, zero, suc, _+_, _-_, _*_, _≤_, _<_}
 use native.Mathlib.Omega.{arith}
 use lib.Dec.{eqb}
 use lib.ListN.{length}
 use Rattle.tables.specs.declared.Answer.{Answer}
 use Rattle.tables.specs.declared.Answer.the-variants.{Accepted, Refused}
-use Rattle.tables.specs.Answer.{numberOf, rowOf, nodeOf, orElse}
+use Rattle.tables.specs.Answer.{numberOf, rowOf, nodeOf, isRefused, orElse}
 use Rattle.tables.specs.First.{first}
 use Rattle.payload.specs.File.{blocksFor, wordIn, payloadWord}
 use Rattle.payload.specs.Block.{checkWord}
@@ -18,14 +18,15 @@ pub record Bounded (rows : ℕ) (a : Answer) : Type 0 where
   pub number : numberOf a ≤ 18
   pub row : rowOf a ≤ rows
   pub node : nodeOf a ≡ 0
+  pub named : isRefused a ≡ true → 1 ≤ numberOf a
 
 pub accepted-bounded : (rows : ℕ) → Bounded rows Accepted
-accepted-bounded rows = record { number = omega arith; row = omega arith; node = refl }
+accepted-bounded rows = record { number = omega arith; row = omega arith; node = refl; named = λ e. absurd (true≢false (sym e)) }
 
 pub tested-bounded : (rows : ℕ) (t : Bool) (number row : ℕ) → number ≤ 18 → row ≤ rows → Bounded rows (tested t number row)
 tested-bounded rows true number row h l = accepted-bounded rows
 tested-bounded rows false zero row h l = accepted-bounded rows
-tested-bounded rows false (suc number) row h l = record { number = h; row = l; node = refl }
+tested-bounded rows false (suc number) row h l = record { number = h; row = l; node = refl; named = λ e. omega arith }
 
 pub orElse-bounded : (rows : ℕ) (a b : Answer) → Bounded rows a → Bounded rows b → Bounded rows (orElse a b)
 orElse-bounded rows Accepted b h l = l

@@ -6,7 +6,7 @@ use mathlib.Core.Path.{_≡_, refl, sym, ap, _∙_}
 use Prim.Native.Nat.{ℕ, _+_, _-_, _*_, _/_, _%_, _≤_, _<_}
 use native.Mathlib.Decide.{decLt}
 use native.Mathlib.Omega.{arith}
-use borrow.Author.Tests.{eq-eqb}
+use borrow.Author.Tests.{eq-eqb, ne-eqb}
 use lib.Dec.{lit<}
 use lib.ListN.{length, getD, List·getD-eq-default}
 use Rattle.tables.specs.declared.Answer.the-variants.{Accepted, Refused}
@@ -22,7 +22,7 @@ use Rattle.payload.specs.Reading.{lengthAnswer, blockAnswer, paddingAnsw
 use Rattle.payload.proofs.Words.{byte-word, word-is, word-fits}
 use Rattle.payload.proofs.Checks.{check-same, one-change}
 use Rattle.payload.proofs.Blocks.{body-payload, body-is, block-body, block-check, block-is, block-fits}
-use Rattle.payload.proofs.Refusals.{Kept, payload-kept, BlockKept, block-kept, padding-kept, check-wrong}
+use Rattle.payload.proofs.Refusals.{Kept, payload-kept, BlockKept, block-kept, padding-kept}
 
 -- ---- words written and then read
 
@@ -130,9 +130,10 @@ module _ (kind m : ℕ) (file : List ℕ) (fits : Bytes file) (accepted : payloa
 module _ (kind : ℕ) (file other : List ℕ) (t i : ℕ) (hf : Bytes file) (ho : Bytes other) (within : i < 127) (change : OneChange file other t i) where
   -- the check word of that block fails
   pub one-change-seen : wordIn file t 127 ≡ checkWord (wordIn file t) → blockAnswer kind other t ≡ Refused 15 t 0
+  unfolding blockAnswer
   one-change-seen sound =
-      sym
-      (check-wrong kind other t (wordIn other t 127) (checkWord (wordIn other t)) refl refl
+      rw
+      (ne-eqb (wordIn other t 127) (checkWord (wordIn other t))
       (λ e.
       change .differs
       (one-change (wordIn other t) (wordIn file t) i within (λ j l d. change .others (t * 128 + j) (λ s. d (omega arith)))

@@ -6,14 +6,14 @@ use mathlib.Core.Path.{_≡_, sym, ap, _∙_}
 use Prim.Native.Nat.{ℕ, _+_, _-_, _*_}
 use native.Mathlib.Nat.{add-zero}
 use native.Mathlib.Omega.{arith}
-use borrow.Author.Tests.{eq-eqb, ne-eqb, eqb-true}
+use borrow.Author.Tests.{eq-eqb, eqb-true}
 use lib.Dec.{eqb}
 use lib.ListN.{length}
 use Rattle.tables.specs.declared.Answer.{Answer}
-use Rattle.tables.specs.declared.Answer.the-variants.{Accepted, Refused}
+use Rattle.tables.specs.declared.Answer.the-variants.{Accepted}
 use Rattle.tables.specs.Answer.{orElse}
 use Rattle.tables.specs.First.{first}
-use Rattle.tables.proofs.Answers.{Refuses, orElse-accepts, orElse-refuses, refusal-unless}
+use Rattle.tables.proofs.Answers.{Refuses, orElse-accepts, or-else-stop, or-else-next, refusal-unless}
 use Rattle.payload.specs.Word.{wordAt}
 use Rattle.payload.specs.Block.{checkWord}
 use Rattle.payload.specs.File.{blocksFor, wordIn, payloadWord}
@@ -23,35 +23,27 @@ use Rattle.payload.specs.Reading.{tested, lengthAnswer, blockAnswer, pad
 pub tested-holds : (t : Bool) (number row : ℕ) → number ≢ 0 → (tested t number row ≡ Accepted) ↔ (t ≡ true)
 tested-holds t number row h = refusal-unless t number row 0 h
 
--- ---- 15, 16, 17 of block t
+-- ---- 15, 16, 17 of block t: a, b and d are what its three tests answered
 
-module _ (kind : ℕ) (file : List ℕ) (t w c : ℕ) (e : w ≡ wordIn file t 127) (q : c ≡ checkWord (wordIn file t)) where
-  pub check-wrong : w ≢ c → Refused 15 t 0 ≡ blockAnswer kind file t
+module _ (kind : ℕ) (file : List ℕ) (t w c : ℕ) (e : w ≡ wordIn file t 127) (q : c ≡ checkWord (wordIn file t)) (a : Answer) (p : a ≡ tested (eqb w c) 15 t) where
+  checked : a ≡ tested (eqb (wordIn file t 127) (checkWord (wordIn file t))) 15 t
+  checked = p ∙ rw (e, q)
+
+  pub check-wrong : Refuses a → a ≡ blockAnswer kind file t
   unfolding blockAnswer
-  check-wrong h = rw (ne-eqb (wordIn file t 127) (checkWord (wordIn file t)) (λ s. h (e ∙ s ∙ sym q)))
+  check-wrong h = or-else-stop a _ _ checked h
 
-  module _ (h : w ≡ c) (v : ℕ) (r : v ≡ wordAt file (t * 128)) where
-    checked : eqb (wordIn file t 127) (checkWord (wordIn file t)) ≡ true
-    checked = eq-eqb (wordIn file t 127) (checkWord (wordIn file t)) (sym e ∙ h ∙ q)
+  module _ (h : a ≡ Accepted) (v : ℕ) (r : v ≡ wordAt file (t * 128)) (b : Answer) (s : b ≡ tested (eqb v kind) 16 t) where
+    named : b ≡ tested (eqb (wordIn file t 0) kind) 16 t
+    named = let o : v ≡ wordIn file t 0 = r ∙ ap (wordAt file) (sym (add-zero (t * 128))) in s ∙ rw o
 
-    opens : v ≡ wordIn file t 0
-    opens = r ∙ ap (wordAt file) (sym (add-zero (t * 128)))
-
-    pub kind-wrong : v ≢ kind → Refused 16 t 0 ≡ blockAnswer kind file t
+    pub kind-wrong : Refuses b → b ≡ blockAnswer kind file t
     unfolding blockAnswer
-    kind-wrong k = rw (checked, ne-eqb (wordIn file t 0) kind (λ s. k (opens ∙ s)))
+    kind-wrong k = or-else-next a b _ _ checked h (or-else-stop b _ _ named k)
 
-    module _ (k : v ≡ kind) (x : ℕ) (y : x ≡ wordIn file t 1) where
-      named : eqb (wordIn file t 0) kind ≡ true
-      named = eq-eqb (wordIn file t 0) kind (sym opens ∙ k)
-
-      pub number-wrong : x ≢ t → Refused 17 t 0 ≡ blockAnswer kind file t
-      unfolding blockAnswer
-      number-wrong z = rw (checked, named, ne-eqb (wordIn file t 1) t (λ s. z (y ∙ s)))
-
-      pub block-sound : x ≡ t → Accepted ≡ blockAnswer kind file t
-      unfolding blockAnswer
-      block-sound z = rw (checked, named, eq-eqb (wordIn file t 1) t (sym y ∙ z))
+    pub number-told : b ≡ Accepted → (x : ℕ) → x ≡ wordIn file t 1 → (d : Answer) → d ≡ tested (eqb x t) 17 t → d ≡ blockAnswer kind file t
+    unfolding blockAnswer
+    number-told k x y d z = or-else-next a d _ _ checked h (or-else-next b d _ _ named k (z ∙ rw y))
 
 -- what an accepted block keeps
 pub record BlockKept (kind : ℕ) (file : List ℕ) (t : ℕ) : Type 0 where
@@ -84,32 +76,36 @@ padding-kept m file i =
     let t = tested-holds (eqb (payloadWord file (m + i)) 0) 18 (blocksFor m - 1) (omega arith) in
     (λ a. eqb-true _ _ (t .0 a), λ e. t .1 (eq-eqb _ _ e))
 
-pub padding-zero : (m : ℕ) (file : List ℕ) (i w : ℕ) → w ≡ payloadWord file (m + i) → w ≡ 0 → paddingAnswer m file i ≡ Accepted
+pub padding-told : (m : ℕ) (file : List ℕ) (i w blocks : ℕ) (a : Answer) → w ≡ payloadWord file (m + i) → blocks ≡ blocksFor m → a ≡ tested (eqb w 0) 18 (blocks - 1)
+    → a ≡ paddingAnswer m file i
 unfolding paddingAnswer
-padding-zero m file i w e h = rw (eq-eqb (payloadWord file (m + i)) 0 (sym e ∙ h))
+padding-told m file i w blocks a e q p = p ∙ rw (e, q)
 
-pub padding-wrong : (m : ℕ) (file : List ℕ) (i w blocks : ℕ) → w ≡ payloadWord file (m + i) → w ≢ 0 → blocks ≡ blocksFor m
-    → Refused 18 (blocks - 1) 0 ≡ paddingAnswer m file i
-unfolding paddingAnswer
-padding-wrong m file i w blocks e h q = rw (ne-eqb (payloadWord file (m + i)) 0 (λ s. h (e ∙ s)), q)
+-- ---- 14 to 18: s is what the test of the length answered, and a what the blocks answered
 
--- ---- 14 to 18
+pub length-kept : (file : List ℕ) (blocks : ℕ) (s : Answer) → s ≡ tested (eqb (length file) (blocks * 512)) 14 0 → s ≡ Accepted → length file ≡ blocks * 512
+length-kept file blocks s p h = eqb-true _ _ (tested-holds (eqb (length file) (blocks * 512)) 14 0 (omega arith) .0 (sym p ∙ h))
 
-module _ (kind m : ℕ) (file : List ℕ) (blocks : ℕ) (q : blocks ≡ blocksFor m) where
-  pub length-wrong : length file ≢ blocks * 512 → Refused 14 0 0 ≡ payloadAnswer kind m file
-  unfolding payloadAnswer lengthAnswer
-  length-wrong h = rw (ne-eqb (length file) (blocksFor m * 512) (λ e. h (e ∙ ap (λ (k : ℕ). k * 512) (sym q))))
+module _ (kind m : ℕ) (file : List ℕ) (blocks : ℕ) (q : blocks ≡ blocksFor m) (s : Answer) (p : s ≡ tested (eqb (length file) (blocks * 512)) 14 0) where
+  sized : s ≡ lengthAnswer m file
+  unfolding lengthAnswer
+  sized = p ∙ rw q
 
-  module _ (e : length file ≡ blocks * 512) (a : Answer) (p : a ≡ first blocks (blockAnswer kind file)) where
-    rest : payloadAnswer kind m file ≡ orElse a (first (blocks * 125 - m) (paddingAnswer m file))
-    unfolding payloadAnswer lengthAnswer
-    rest = rw (← q, eq-eqb (length file) (blocks * 512) e, p)
+  pub length-wrong : Refuses s → s ≡ payloadAnswer kind m file
+  unfolding payloadAnswer
+  length-wrong h = or-else-stop s _ _ sized h
+
+  module _ (h : s ≡ Accepted) (a : Answer) (r : a ≡ first blocks (blockAnswer kind file)) where
+    blocks-are : a ≡ first (blocksFor m) (blockAnswer kind file)
+    blocks-are = r ∙ rw q
 
     pub blocks-wrong : Refuses a → a ≡ payloadAnswer kind m file
-    blocks-wrong r = sym (rest ∙ orElse-refuses a _ r)
+    unfolding payloadAnswer
+    blocks-wrong k = or-else-next s a _ _ sized h (or-else-stop a _ _ blocks-are k)
 
-    pub blocks-sound : (b : Answer) → a ≡ Accepted → b ≡ first (blocks * 125 - m) (paddingAnswer m file) → b ≡ payloadAnswer kind m file
-    blocks-sound b h k = k ∙ sym (rest ∙ ap (λ (x : Answer). orElse x (first (blocks * 125 - m) (paddingAnswer m file))) h)
+    pub blocks-sound : a ≡ Accepted → (b : Answer) → b ≡ first (blocks * 125 - m) (paddingAnswer m file) → b ≡ payloadAnswer kind m file
+    unfolding payloadAnswer
+    blocks-sound k b z = or-else-next s b _ _ sized h (or-else-next a b _ _ blocks-are k (z ∙ rw q))
 
 -- what an accepted file keeps
 pub record Kept (kind m : ℕ) (file : List ℕ) : Type 0 where

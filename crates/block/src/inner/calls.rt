@@ -13,6 +13,8 @@ use payload::inner::place;
 use payload::inner::reading;
 use payload::inner::sealing;
 use tables::Answer;
+use tables::is_refused;
+use tables::sized;
 
 // Whether x is low..high.
 fn within(low: u32, high: u32, x: u32) -> bool
@@ -41,37 +43,25 @@ pub fn file_answer(kind: Kind, n: u32, k: u32, file: &[u8]) -> Answer
 {
     let m = kinds::length_of(kind, n, k);
     let answer = reading::payload_answer(kinds::number_of(kind), m, file);
-    if let Answer::Refused {
-        number: _,
-        row: _,
-        node: _,
-    } = answer {
+    if is_refused(answer) {
         return answer;
     }
-    if kinds::own_agrees(kind, n, k, place::word_of(file, 0)) {
-        return Answer::Accepted;
-    }
-    Answer::Refused {
-        number: 1,
-        row: 0,
-        node: 0,
-    }
+    sized(kinds::own_agrees(kind, n, k, place::word_of(file, 0)))
 }
 
 // All that a reader refuses, with `room` words lent.
 fn read_answer(kind: Kind, n: u32, k: u32, file: &[u8], room: usize) -> Answer
     ensures { λ r. ⌜ r ≡ readAnswer kind n k (now (file .entry)) room ⌝ }
 {
-    if told_fits(n, k) {
-        if room == kinds::length_of(kind, n, k) {
-            return file_answer(kind, n, k, file);
-        }
+    let told = sized(told_fits(n, k));
+    if is_refused(told) {
+        return told;
     }
-    Answer::Refused {
-        number: 1,
-        row: 0,
-        node: 0,
+    let size = sized(room == kinds::length_of(kind, n, k));
+    if is_refused(size) {
+        return size;
     }
+    file_answer(kind, n, k, file)
 }
 
 // A file's words, or a refusal that leaves the list as lent.
@@ -80,11 +70,7 @@ pub fn read_list(kind: Kind, n: u32, k: u32, file: &[u8], words: &mut [u32]) -> 
     ensures lent { λ _. ⌜ now (words .exit) ≡ wordsRead kind n k (now (file .entry)) (now (words .entry)) ⌝ }
 {
     let answer = read_answer(kind, n, k, file, words.len());
-    if let Answer::Refused {
-        number: _,
-        row: _,
-        node: _,
-    } = answer {
+    if is_refused(answer) {
         return answer;
     }
     place::unpack(file, 0, words);
@@ -106,19 +92,16 @@ fn list_fits(kind: Kind, n: u32, k: u32, words: &[u32], m: usize) -> bool
 fn write_answer(kind: Kind, n: u32, k: u32, words: &[u32], room: usize) -> Answer
     ensures { λ r. ⌜ r ≡ writeAnswer kind n k (now (words .entry)) room ⌝ }
 {
-    if told_fits(n, k) {
-        let m = kinds::length_of(kind, n, k);
-        if room == reading::blocks_for(m) * 512 {
-            if list_fits(kind, n, k, words, m) {
-                return Answer::Accepted;
-            }
-        }
+    let told = sized(told_fits(n, k));
+    if is_refused(told) {
+        return told;
     }
-    Answer::Refused {
-        number: 1,
-        row: 0,
-        node: 0,
+    let m = kinds::length_of(kind, n, k);
+    let size = sized(room == reading::blocks_for(m) * 512);
+    if is_refused(size) {
+        return size;
     }
+    sized(list_fits(kind, n, k, words, m))
 }
 
 // A list's file, or a refusal that leaves the file as lent.
@@ -127,11 +110,7 @@ pub fn write_list(kind: Kind, n: u32, k: u32, words: &[u32], file: &mut [u8]) ->
     ensures lent { λ _. ⌜ now (file .exit) ≡ fileWritten kind n k (now (words .entry)) (now (file .entry)) ⌝ }
 {
     let answer = write_answer(kind, n, k, words, file.len());
-    if let Answer::Refused {
-        number: _,
-        row: _,
-        node: _,
-    } = answer {
+    if is_refused(answer) {
         return answer;
     }
     place::put(file, 0, words);

@@ -5,10 +5,12 @@ ghost use lib.ListN.{length};
 ghost use Rattle.tables.specs.First.{first};
 ghost use Rattle.payload.specs.Block.{checkWord};
 ghost use Rattle.payload.specs.File.{blocksFor, wordIn};
-ghost use Rattle.payload.specs.Reading.{blockAnswer, paddingAnswer, payloadAnswer};
+ghost use Rattle.payload.specs.Reading.{tested, blockAnswer, paddingAnswer, payloadAnswer};
 use crate::inner::place;
 use crate::inner::words;
 use tables::Answer;
+use tables::is_refused;
+use tables::refusal;
 
 // The check word so far, with word j, modulo 2 ^ 32.
 fn added(check: u32, j: usize, word: u32) -> u32
@@ -33,6 +35,16 @@ pub fn check_word(file: &[u8], t: usize) -> u32
     check
 }
 
+// A refusal at a row, unless the test holds.
+fn tested(fits: bool, number: u32, row: u32) -> Answer
+    ensures { λ r. ⌜ r ≡ tested fits number row ⌝ }
+{
+    if fits {
+        return Answer::Accepted;
+    }
+    refusal(number, row, 0)
+}
+
 // 15, 16, 17 of block t.
 fn block_answer(kind: u32, file: &[u8], t: usize) -> Answer
     requires { ⌜ (t * 512 + 512 ≤ length (now file)) × (t < 4294967296) ⌝ }
@@ -42,30 +54,17 @@ fn block_answer(kind: u32, file: &[u8], t: usize) -> Answer
     let row = t as u32;
     let check = words::word_at(file, first + 127);
     let right = check_word(file, t);
-    if check != right {
-        return Answer::Refused {
-            number: 15,
-            row,
-            node: 0,
-        };
+    let whole = tested(check == right, 15, row);
+    if is_refused(whole) {
+        return whole;
     }
     let named = words::word_at(file, first);
-    if named != kind {
-        return Answer::Refused {
-            number: 16,
-            row,
-            node: 0,
-        };
+    let like = tested(named == kind, 16, row);
+    if is_refused(like) {
+        return like;
     }
     let number = words::word_at(file, first + 1);
-    if number != row {
-        return Answer::Refused {
-            number: 17,
-            row,
-            node: 0,
-        };
-    }
-    Answer::Accepted
+    tested(number == row, 17, row)
 }
 
 // The first block that is refused.
@@ -76,16 +75,21 @@ fn blocks_answer(kind: u32, file: &[u8], blocks: usize) -> Answer
     let mut t: usize = 0;
     while t < blocks {
         let answer = block_answer(kind, file, t);
-        if let Answer::Refused {
-            number: _,
-            row: _,
-            node: _,
-        } = answer {
+        if is_refused(answer) {
             return answer;
         }
         t += 1;
     }
     Answer::Accepted
+}
+
+// 18 at word i after the payload's end.
+fn padding_at(m: usize, file: &[u8], blocks: usize, i: usize) -> Answer
+    requires { ⌜ (length (now file) ≡ blocks * 512) × (blocks ≡ blocksFor m) × (m ≤ 4294967295) × (i < blocks * 125 - m) ⌝ }
+    ensures { λ r. ⌜ r ≡ paddingAnswer m (now (file .entry)) i ⌝ }
+{
+    let word = place::word_of(file, m + i);
+    tested(word == 0, 18, (blocks - 1) as u32)
 }
 
 // 18 at the first word after the payload that is not zero.
@@ -96,13 +100,9 @@ fn padding_answer(m: usize, file: &[u8], blocks: usize) -> Answer
     let rest = blocks * 125 - m;
     let mut i: usize = 0;
     while i < rest {
-        let word = place::word_of(file, m + i);
-        if word != 0 {
-            return Answer::Refused {
-                number: 18,
-                row: (blocks - 1) as u32,
-                node: 0,
-            };
+        let answer = padding_at(m, file, blocks, i);
+        if is_refused(answer) {
+            return answer;
         }
         i += 1;
     }
@@ -123,19 +123,12 @@ pub fn payload_answer(kind: u32, m: usize, file: &[u8]) -> Answer
     ensures { λ r. ⌜ r ≡ payloadAnswer kind m (now (file .entry)) ⌝ }
 {
     let blocks = blocks_for(m);
-    if file.len() != blocks * 512 {
-        return Answer::Refused {
-            number: 14,
-            row: 0,
-            node: 0,
-        };
+    let size = tested(file.len() == blocks * 512, 14, 0);
+    if is_refused(size) {
+        return size;
     }
     let answer = blocks_answer(kind, file, blocks);
-    if let Answer::Refused {
-        number: _,
-        row: _,
-        node: _,
-    } = answer {
+    if is_refused(answer) {
         return answer;
     }
     padding_answer(m, file, blocks)

@@ -1,6 +1,7 @@
 -- A loop that looks for the first block that is refused.
 use Prim.Native.Nat.{_-_}
-use Rattle.tables.proofs.Sets.{all}
+use borrow.Author.Needs.{needs}
+use Rattle.tables.proofs.Sets.{scans}
 use Rattle.tables.proofs.First.{Passed}
 use Rattle.payload.specs.Reading.{blockAnswer}
 use Rattle.payload.proofs.inner.reading.blocks_answer.Statement.{statement}
@@ -16,5 +17,13 @@ pub blocks-answer-spec : {M : Type 1} → statement M
 blocks-answer-spec =
     tie.close
     (tie.spec
-    Inv-loop μ-loop (λ c. search all) (λ c κs. search all) (λ c. search all) (λ c. search all) (λ c. search all)
-    (λ c. search all) (λ c. search all) (λ c. search all) (λ c. search all))
+    Inv-loop
+    μ-loop
+    (λ c. search scans)
+    (λ c κs. search needs)
+    (λ c κs. search needs)
+    (λ c. search scans)
+    (λ c. search needs)
+    (λ c. search needs)
+    (λ c. search scans)
+    (λ c. search scans))
