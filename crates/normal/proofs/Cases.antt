@@ -12,7 +12,7 @@ use Rattle.settings.specs.Setting.{heldLimit, settingFor}
 use Rattle.lists.specs.Words.{linksOf, nodeAt, stepsOf, roadOf, traceOf}
 use Rattle.faults.specs.Lists.{linkFault, rampFault, startFault, demandFault}
 use Rattle.lists.specs.Refusals.{sizes, fresh, linkRefusal, rampRefusal, startRefusal, demandRefusal, ranges}
-use Rattle.faults.specs.Records.{fixedFault, stepFault}
+use Rattle.faults.specs.Records.{fixedFault, stepFault, totalFault}
 use Rattle.convert.specs.Refusals.{costFault, judged}
 use Rattle.convert.specs.Convert.{settingAt, checkAnswer}
 use Rattle.payload.specs.Word.{wordAt}
@@ -27,5 +27,5 @@ use Rattle.normal.specs.Text.{decimalIn, decimal, spaced, planWord, refu
 use Rattle.normal.specs.Cases.{Cases}
 
 pub cases : Cases
-unfolding first cell grid rowWords leastFrom sum tabulate sending exit through offer receiving passed merge flowsWith outflow moved supply junction inflow next cost fullFlows gives rateFor heldLimit settingFor linksOf nodeAt stepsOf roadOf traceOf sizes linkFault fresh rampFault startFault demandFault linkRefusal rampRefusal startRefusal demandRefusal ranges fixedFault stepFault costFault judged settingAt checkAnswer wordAt checkWord bodyWord blockWord fileOf payloadWord lengthAnswer blockAnswer paddingAnswer payloadAnswer kindNumber listLength ownAgrees fileAnswer filesAnswer readThenCheck linksIn demandsBlock stepsIn recordBlock endBlock inputAnswer decimalIn decimal spaced planWord refusedWord letter refusedLine inputRoad inputTrace headLine settingLine planLine linesOf stepText planText printed
+unfolding first cell grid rowWords leastFrom sum tabulate sending exit through offer receiving passed merge flowsWith outflow moved supply junction inflow next cost fullFlows gives rateFor heldLimit settingFor linksOf nodeAt stepsOf roadOf traceOf sizes linkFault fresh rampFault startFault demandFault linkRefusal rampRefusal startRefusal demandRefusal ranges fixedFault stepFault totalFault costFault judged settingAt checkAnswer wordAt checkWord bodyWord blockWord fileOf payloadWord lengthAnswer blockAnswer paddingAnswer payloadAnswer kindNumber listLength ownAgrees fileAnswer filesAnswer readThenCheck linksIn demandsBlock stepsIn recordBlock endBlock inputAnswer decimalIn decimal spaced planWord refusedWord letter refusedLine inputRoad inputTrace headLine settingLine planLine linesOf stepText planText printed
 cases = record { case-1 = refl; case-5 = refl }

@@ -242,7 +242,7 @@ cost-stated links steps corridor demands recorded fit accepted =
     let road : Road = roadOf (corridorIn links corridor) (demandsIn links steps demands) in
     let total : ℕ = cost road (traceOf recordWidth road (recordIn recordWidth links steps recorded)) in
     let costs = judged-iff recordWidth road (recordIn recordWidth links steps recorded) .0 (accepted .judges) .costs in
-    let place : traceLength recordWidth links steps ≡ traceLength (linksOf (corridorIn links corridor)) (stepsOf (demandsIn links steps demands)) =
+    let place : traceLength recordWidth links steps ≡ traceLength recordWidth (linksOf (corridorIn links corridor)) (stepsOf (demandsIn links steps demands)) =
     sym (ap₂ (traceLength recordWidth) (own-links links steps corridor demands recorded fit) (own-steps links steps corridor demands recorded fit)) in
     let low : payloadWord recorded (traceLength recordWidth links steps) ≡ total % 4294967296 =
     sym (tabulate-at (recordLength recordWidth links steps) (payloadWord recorded) (traceLength recordWidth links steps) 0 (omega arith))
