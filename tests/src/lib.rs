@@ -10,8 +10,10 @@ pub mod limits;
 pub mod model;
 #[cfg(feature = "program")]
 pub mod program;
+pub mod properties;
 pub mod random;
 pub mod samples;
+mod stack;
 pub mod sweeps;
 pub mod tally;
 pub mod yardstick;

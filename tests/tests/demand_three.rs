@@ -1,11 +1,18 @@
 //! Demand 3 by trying everything on tiny corridors: all valid plans, and all proposals with flows
-//! up to one beyond what can flow. The simulator alone says which records there are.
+//! up to one beyond what can flow. Asked of the model and of the exported calls alike; the simulator
+//! of the side that is asked alone says which records there are and what a rate gives.
 
 use std::collections::{BTreeMap, BTreeSet};
+#[cfg(feature = "files")]
+use tests::calls::ByFiles;
+#[cfg(feature = "nodes")]
+use tests::calls::ByNodes;
+use tests::calls::WordCalls;
+#[cfg(feature = "host")]
+use tests::host::Host;
 use tests::model::lists::{corridor_of, Node};
-use tests::model::rules::flows;
-use tests::model::simulate::{entry, run};
-use tests::model::{check, convert, normal, Input, NodeStep, Paper, Quick, Rules, Size};
+use tests::model::simulate::entry;
+use tests::model::{check, Input, Paper, Quick, Rules, Size};
 use tests::random::records::record_of_flows;
 use tests::random::Random;
 use tests::tally::{Tally, SETTINGS};
@@ -125,18 +132,58 @@ fn queues_hold(input: &Input, record: &[u32]) -> bool {
         .all(|(k, i)| record[input.size.record_place(k, i) + 1] <= input.node(i).queue_limit)
 }
 
+/// A side, and the corridor and demands that it is asked about.
+struct Asked<'a> {
+    calls: &'a dyn WordCalls,
+    corridor: &'a [u32],
+    demands: &'a [u32],
+    input: Input<'a>,
+}
+
+impl<'a> Asked<'a> {
+    fn new(calls: &'a dyn WordCalls, tiny: &'a Tiny) -> Asked<'a> {
+        let (corridor, demands) = (&tiny.corridor, &tiny.demands);
+        let input = Input::new(corridor, demands).expect("of right lengths");
+        assert_eq!(Quick::test_input(&input), Ok(()));
+        Asked { calls, corridor, demands, input }
+    }
+
+    fn simulated(&self, plan: &[u32]) -> Vec<u32> {
+        let mut record = vec![7; self.input.size.record()];
+        assert_eq!(self.calls.simulate(self.corridor, self.demands, plan, &mut record), 0);
+        record
+    }
+
+    /// f and r of node i at step k with that rate and V: the same node in a corridor of one step
+    /// that starts in the record's state k.
+    fn at_full_speed(&self, record: &[u32], (k, i): (usize, usize), rate: u32) -> (u32, u32) {
+        let mut corridor = self.corridor.to_vec();
+        for j in 0..self.input.size.nodes() {
+            let now = self.input.size.record_place(k, j);
+            corridor[1 + 9 * j + 7..1 + 9 * j + 9].copy_from_slice(&record[now..now + 2]);
+        }
+        let one_step = Size { steps: 1, ..self.input.size };
+        let row = 1 + self.input.size.plan_place(k, 0)..1 + self.input.size.plan_place(k + 1, 0);
+        let demands = [&[1], &self.demands[row]].concat();
+        let mut plan = vec![0; one_step.plan()];
+        (plan[2 * i], plan[2 * i + 1]) = (rate, self.input.node(i).full_speed);
+        let mut record = vec![7; one_step.record()];
+        assert_eq!(self.calls.simulate(&corridor, &demands, &plan, &mut record), 0);
+        (record[4 * i + 2], record[4 * i + 3])
+    }
+}
+
 /// The records of all valid plans, each with the one normal form that all its plans must share.
-fn records_of_valid_plans(tiny: &Tiny, input: &Input) -> BTreeMap<Vec<u32>, Vec<u32>> {
-    let mut records = BTreeMap::new();
+fn records_of_valid_plans(asked: &Asked) -> BTreeMap<Vec<u32>, Vec<u32>> {
+    let (input, mut records) = (&asked.input, BTreeMap::new());
     for_all(&plan_choices(input), |plan| {
-        let mut record = vec![0; input.size.record()];
-        run::<Paper>(input, plan, &mut record);
-        let mut work = vec![0; input.size.record()];
+        let record = asked.simulated(plan);
+        let mut work = vec![7; input.size.record()];
         let mut form = vec![7; input.size.plan()];
-        let outcome = normal::<Paper>(&tiny.corridor, &tiny.demands, plan, &mut work, &mut form);
-        assert_eq!(outcome.is_ok(), queues_hold(input, &record));
+        let answer = asked.calls.normal(asked.corridor, asked.demands, plan, &mut work, &mut form);
+        assert_eq!(answer == 0, queues_hold(input, &record));
         assert_eq!(work, record);
-        if outcome.is_ok() {
+        if answer == 0 {
             let first = records.entry(record).or_insert(form.clone());
             assert_eq!(*first, form, "same record, same normal form");
         }
@@ -145,45 +192,46 @@ fn records_of_valid_plans(tiny: &Tiny, input: &Input) -> BTreeMap<Vec<u32>, Vec<
 }
 
 /// The plan of an accepted record: has it, is valid, is set full or held as the paper says.
-fn assert_plan(input: &Input, record: &[u32], plan: &[u32]) {
+fn assert_plan(asked: &Asked, record: &[u32], plan: &[u32]) {
+    let input = &asked.input;
     assert!(within_bounds(input, plan));
-    let mut own = vec![0; record.len()];
-    run::<Paper>(input, plan, &mut own);
-    assert_eq!(own, record);
-    assert!(queues_hold(input, &own));
+    assert_eq!(asked.simulated(plan), record);
+    assert!(queues_hold(input, record));
     for k in 0..input.size.steps {
         for i in 0..input.size.nodes() {
-            let state = check::state(input, record, k);
-            let at = NodeStep::new::<Paper>(input, state, k, i);
-            let [_, _, flow, ramp_flow] = entry(state, i);
             let place = input.size.plan_place(k, i);
-            assert_setting(&at, (flow, ramp_flow), (plan[place].into(), plan[place + 1].into()));
+            assert_setting(asked, record, (k, i), (plan[place], plan[place + 1]));
         }
     }
 }
 
-fn assert_setting(at: &NodeStep, wanted: (u64, u64), (rate, limit): (u64, u64)) {
-    let mut rates = 0..=at.ramp_capacity;
-    match rates.find(|&rate| flows::<Paper>(at, rate, at.full_speed) == wanted) {
-        Some(smallest) => assert_eq!((rate, limit), (smallest, at.full_speed)),
+/// Full with the smallest rate that gives the flows at full speed; held where none from 0 to C does.
+fn assert_setting(asked: &Asked, record: &[u32], place: (usize, usize), setting: (u32, u32)) {
+    let node = asked.input.node(place.1);
+    let [vehicles, _, flow, ramp_flow] =
+        entry(check::state(&asked.input, record, place.0), place.1);
+    let wanted = (flow as u32, ramp_flow as u32);
+    let mut rates = 0..=node.ramp_capacity;
+    match rates.find(|&rate| asked.at_full_speed(record, place, rate) == wanted) {
+        Some(smallest) => assert_eq!(setting, (smallest, node.full_speed)),
         None => {
-            assert!(limit < at.full_speed);
-            let mut limits = 0..=at.full_speed;
-            let smallest = limits.find(|v| at.vehicles * v / 65_536 == wanted.0);
-            assert_eq!((rate, Some(limit)), (wanted.1, smallest));
+            assert!(setting.1 < node.full_speed);
+            let mut limits = 0..=node.full_speed;
+            let smallest = limits.find(|&v| vehicles * u64::from(v) / 65_536 == flow);
+            assert_eq!((setting.0, Some(setting.1)), (wanted.1, smallest));
         }
     }
 }
 
 /// The converter and the checker on one proposal: accepted exactly when some valid plan has it.
-fn assert_proposal(tiny: &Tiny, records: &BTreeMap<Vec<u32>, Vec<u32>>, record: &[u32]) -> bool {
+fn assert_proposal(asked: &Asked, records: &BTreeMap<Vec<u32>, Vec<u32>>, record: &[u32]) -> bool {
     let form = records.get(record);
-    let size = Size { links: tiny.corridor[0] as usize, steps: tiny.demands[0] as usize };
-    let mut plan = vec![7; size.plan()];
-    let outcome = convert::<Paper>(&tiny.corridor, &tiny.demands, record, &mut plan);
-    assert_eq!(outcome.is_ok(), form.is_some(), "{outcome:?} {record:?}");
-    assert_eq!(outcome, check::<Paper>(&tiny.corridor, &tiny.demands, record));
-    assert_eq!(plan, form.cloned().unwrap_or(vec![7; size.plan()]));
+    let as_lent = vec![7; asked.input.size.plan()];
+    let mut plan = as_lent.clone();
+    let answer = asked.calls.convert(asked.corridor, asked.demands, record, &mut plan);
+    assert_eq!(answer == 0, form.is_some(), "{answer} {record:?}");
+    assert_eq!(answer, asked.calls.check(asked.corridor, asked.demands, record));
+    assert_eq!(plan, *form.unwrap_or(&as_lent));
     form.is_some()
 }
 
@@ -200,40 +248,45 @@ fn flow_choices(input: &Input) -> Vec<Vec<u32>> {
 }
 
 /// Everything on one corridor; how many proposals were accepted and how many refused.
-fn assert_demand_three(tiny: &Tiny, tally: &mut Tally) -> [u64; 2] {
-    let input = Input::new(&tiny.corridor, &tiny.demands).expect("of right lengths");
-    assert_eq!(Quick::test_input(&input), Ok(()));
-    let records = records_of_valid_plans(tiny, &input);
+fn assert_demand_three(asked: &Asked, tally: &mut Tally) -> [u64; 2] {
+    let input = &asked.input;
+    let records = records_of_valid_plans(asked);
     let forms: BTreeSet<_> = records.values().collect();
     assert_eq!(forms.len(), records.len(), "different records, different normal forms");
     let mut counts = [0; 2];
     for (record, form) in &records {
-        assert_plan(&input, record, form);
-        tally.settings(&input, form);
+        assert_plan(asked, record, form);
+        tally.settings(input, form);
         for place in 0..record.len() {
             for by in [1, u32::MAX] {
                 let mut other = record.clone();
                 other[place] = other[place].wrapping_add(by);
-                counts[usize::from(!assert_proposal(tiny, &records, &other))] += 1;
+                counts[usize::from(!assert_proposal(asked, &records, &other))] += 1;
             }
         }
     }
-    for_all(&flow_choices(&input), |flows| {
-        let record = record_of_flows(&input, |k, i, _| {
+    for_all(&flow_choices(input), |flows| {
+        let record = record_of_flows(input, |k, i, _| {
             let place = input.size.plan_place(k, i);
             (flows[place].into(), flows[place + 1].into())
         });
-        counts[usize::from(!assert_proposal(tiny, &records, &record))] += 1;
+        counts[usize::from(!assert_proposal(asked, &records, &record))] += 1;
     });
     counts
 }
 
-fn try_corridors(seed: u64, count: usize, size: Size, links: Links, most: u64) {
+fn try_corridors(
+    calls: &dyn WordCalls,
+    seed: u64,
+    count: usize,
+    size: Size,
+    (links, most): (Links, u64),
+) {
     let mut random = Random::new(seed);
     let mut tally = Tally::default();
     for _ in 0..count {
         let tiny = tiny(&mut random, size, links, most);
-        let [accepted, refused] = assert_demand_three(&tiny, &mut tally);
+        let [accepted, refused] = assert_demand_three(&Asked::new(calls, &tiny), &mut tally);
         tally.add("proposals accepted", 0, accepted);
         tally.add("proposals refused", 0, refused);
     }
@@ -247,37 +300,38 @@ fn try_corridors(seed: u64, count: usize, size: Size, links: Links, most: u64) {
     }
 }
 
-fn size(links: usize, steps: usize) -> Size {
-    Size { links, steps }
+/// Corridors of all sizes, from seeds of their own for each side; `part` of them is one in so many.
+fn try_all_sizes(calls: &dyn WordCalls, seed: u64, part: usize) {
+    let size = |links, steps| Size { links, steps };
+    try_corridors(calls, seed + 1, 500 / part, size(1, 1), (Links::Slow, 4));
+    try_corridors(calls, seed + 2, 100 / part, size(1, 2), (Links::Slow, 4));
+    try_corridors(calls, seed + 3, 1_000 / part, size(2, 1), (Links::Slow, 4));
+    try_corridors(calls, seed + 4, 60 / part, size(2, 2), (Links::Slow, 2));
+    try_corridors(calls, seed + 5, 300 / part, size(3, 1), (Links::Slow, 2));
+    try_corridors(calls, seed + 6, 1_000 / part, size(2, 1), (Links::Short, 4));
+    try_corridors(calls, seed + 7, 300 / part, size(3, 1), (Links::Short, 2));
 }
 
 #[test]
-fn one_slow_link() {
-    try_corridors(1, 500, size(1, 1), Links::Slow, 4);
-    try_corridors(2, 100, size(1, 2), Links::Slow, 4);
+fn of_the_model() {
+    try_all_sizes(&Paper, 0, 1);
 }
 
+#[cfg(feature = "host")]
 #[test]
-fn two_slow_links() {
-    try_corridors(3, 1_000, size(2, 1), Links::Slow, 4);
+fn of_the_calls_on_words() {
+    try_all_sizes(&Host, 100, 1);
 }
 
+#[cfg(feature = "nodes")]
 #[test]
-fn two_slow_links_and_two_steps() {
-    try_corridors(4, 60, size(2, 2), Links::Slow, 2);
+fn of_the_calls_on_nodes() {
+    try_all_sizes(&ByNodes(Host), 200, 4);
 }
 
+/// Checker and converter on files; simulator and normal form, which have no call on files, on words.
+#[cfg(feature = "files")]
 #[test]
-fn three_slow_links() {
-    try_corridors(5, 300, size(3, 1), Links::Slow, 2);
-}
-
-#[test]
-fn two_short_links() {
-    try_corridors(6, 1_000, size(2, 1), Links::Short, 4);
-}
-
-#[test]
-fn three_short_links() {
-    try_corridors(7, 300, size(3, 1), Links::Short, 2);
+fn of_the_calls_on_files() {
+    try_all_sizes(&ByFiles(Host), 300, 4);
 }

@@ -1,6 +1,6 @@
 //! The host's readers, writers and calls on block files against the model, byte for byte.
 
-use tests::calls::{FileCalls, OnSmallStack};
+use tests::calls::OnSmallStack;
 use tests::compare::{
     compare_file, compare_limit_on_files, compare_three, Series, CALLS_ON_FILES, READERS, WRITERS,
 };
@@ -9,6 +9,7 @@ use tests::host::Host;
 use tests::limits::{greatest, limit_cases};
 use tests::model::files::KINDS;
 use tests::model::{Quick, Size};
+use tests::properties::{assert_check_word_sees_any_one_change, assert_files_come_back};
 use tests::random::damage::full_size;
 use tests::random::files::{
     file_case, large_file_case, large_three_files, three_files, FileCase, ThreeFiles,
@@ -115,34 +116,17 @@ fn sizes_around_a_full_block() {
     assert!(sizes > 100, "sizes tried: {sizes}");
 }
 
-/// An accepted file read and rewritten has the same bytes; words written and read come back.
 #[test]
 fn files_come_back() {
-    let mut accepted = 0;
-    let series = Series::new("files come back", 80_000_000, 2_000);
-    let outcome = series.run(file_case, |case| {
-        let FileCase { kind, n, k, file, .. } = case;
-        let mut words = vec![7; case.lent_words];
-        if Host.read(*kind, *n, *k, file, &mut words) != 0 {
-            return Ok(());
-        }
-        accepted += 1;
-        let mut bytes = vec![7; file.len()];
-        let mut again = vec![7; words.len()];
-        let answers = [
-            Host.write(*kind, *n, *k, &words, &mut bytes),
-            Host.read(*kind, *n, *k, &bytes, &mut again),
-        ];
-        match answers == [0, 0] && bytes == *file && again == words {
-            true => Ok(()),
-            false => Err(format!("{kind:?} {n} {k}: not the same")),
-        }
-    });
-    assert_eq!(outcome, Ok(()));
-    assert!(accepted > 500, "files accepted: {accepted}");
+    assert_files_come_back(&Host);
 }
 
-/// Every call at full size in a thread with a stack of 128 KiB.
+#[test]
+fn check_word_sees_any_one_change() {
+    assert_check_word_sees_any_one_change(&Host);
+}
+
+/// Every call at full size in a thread with a stack of 64 KiB.
 #[test]
 fn full_size_on_a_small_stack() {
     let size = full_size();

@@ -6,6 +6,7 @@ use tests::examples::{assert_word_examples, b};
 use tests::host::Host;
 use tests::limits::{greatest, limit_cases};
 use tests::model::{Paper, Quick, Size};
+use tests::properties::*;
 use tests::random::damage::{full_size, large_case, size, small_case};
 use tests::random::sound::{sound_case, WordCase};
 use tests::random::Random;
@@ -93,7 +94,7 @@ fn every_number_of_nodes() {
     }
 }
 
-/// Every call at full size in a thread with a stack of 128 KiB.
+/// Every call at full size in a thread with a stack of 64 KiB.
 #[test]
 fn full_size_on_a_small_stack() {
     let mut tally = Tally::default();
@@ -105,4 +106,29 @@ fn full_size_on_a_small_stack() {
     for call in CALLS_ON_LISTS {
         tally.expect(call, &[0], 1);
     }
+}
+
+#[test]
+fn vehicles_are_conserved() {
+    assert_vehicles_are_conserved(&ByNodes(Host));
+}
+
+#[test]
+fn cost_is_the_sum_over_later_states() {
+    assert_cost_is_the_sum_over_later_states(&ByNodes(Host));
+}
+
+#[test]
+fn merge_is_close_and_fits() {
+    assert_merge_is_close_and_fits(&ByNodes(Host));
+}
+
+#[test]
+fn flows_are_monotone_in_the_rate() {
+    assert_flows_are_monotone_in_the_rate(&ByNodes(Host));
+}
+
+#[test]
+fn held_limit_is_the_smallest() {
+    assert_held_limit_is_the_smallest(&ByNodes(Host));
 }

@@ -6,6 +6,7 @@ use tests::examples::{assert_word_examples, b};
 use tests::host::Host;
 use tests::limits::{greatest, limit_cases};
 use tests::model::{Paper, Quick, Size};
+use tests::properties::*;
 use tests::random::damage::{full_size, large_case, short_ramp_case, small_case};
 use tests::random::sound::{sound_case, WordCase};
 use tests::random::Random;
@@ -73,7 +74,7 @@ fn limits_of_links_and_steps() {
     assert_eq!(outcome, Ok(()));
 }
 
-/// Every call at full size, accepted and refused, in a thread with a stack of 128 KiB.
+/// Every call at full size, accepted and refused, in a thread with a stack of 64 KiB.
 #[test]
 fn full_size_on_a_small_stack() {
     let mut cases = vec![greatest(full_size(), true), greatest(full_size(), false)];
@@ -87,4 +88,29 @@ fn full_size_on_a_small_stack() {
         tally.expect(call, &[0], 2);
     }
     tally.expect("normal", &[12], 1);
+}
+
+#[test]
+fn vehicles_are_conserved() {
+    assert_vehicles_are_conserved(&Host);
+}
+
+#[test]
+fn cost_is_the_sum_over_later_states() {
+    assert_cost_is_the_sum_over_later_states(&Host);
+}
+
+#[test]
+fn merge_is_close_and_fits() {
+    assert_merge_is_close_and_fits(&Host);
+}
+
+#[test]
+fn flows_are_monotone_in_the_rate() {
+    assert_flows_are_monotone_in_the_rate(&Host);
+}
+
+#[test]
+fn held_limit_is_the_smallest() {
+    assert_held_limit_is_the_smallest(&Host);
 }

@@ -101,7 +101,7 @@ fn sized_file_case(random: &mut Random, size: Size) -> FileCase {
 }
 
 /// Words of any values under the right N or K; in some lists half are zero, in some nearly all.
-fn any_words(random: &mut Random, kind: Kind, size: Size) -> Vec<u32> {
+pub fn any_words(random: &mut Random, kind: Kind, size: Size) -> Vec<u32> {
     let one_in = random.pick(&[2, 2, 20]);
     let mut words = vec![0; kind.words(size)];
     for word in &mut words {
