@@ -3,6 +3,7 @@
 
 pub mod calls;
 pub mod compare;
+pub mod demand_three;
 pub mod examples;
 #[cfg(feature = "host")]
 pub mod host;

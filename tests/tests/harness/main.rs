@@ -5,6 +5,7 @@ mod files;
 mod limits;
 mod outputs;
 mod program;
+mod properties;
 mod records;
 mod steps;
 
@@ -97,6 +98,11 @@ fn wrong_programs_are_found() {
 #[test]
 fn wrong_limits_are_found() {
     limits::assert_wide_limits_found();
+}
+
+#[test]
+fn wrong_variants_break_the_properties() {
+    properties::assert_properties_broken();
 }
 
 /// The other way round: where there is no difference none is reported.
