@@ -2,7 +2,7 @@
 //! amounts, and N and K on either side of their limits while all else is sound.
 
 use crate::model::files::KINDS;
-use crate::model::lists::{corridor_of, Node, MOST_LINKS, MOST_STEPS};
+use crate::model::lists::{corridor_of, Node};
 use crate::model::{Input, Size, MOST_QUEUE_LIMIT, WHOLE};
 use crate::random::files::{FileCase, ThreeFiles};
 use crate::random::records::record_of_plan;
@@ -62,7 +62,7 @@ impl LimitCase {
     }
 
     pub fn is_within(&self) -> bool {
-        Size::new(self.n, self.k).is_ok()
+        (1..=64).contains(&self.n) && (1..=1_440).contains(&self.k)
     }
 
     /// What the reader and the writer of each kind take.
@@ -77,16 +77,14 @@ impl LimitCase {
     }
 }
 
-/// One count on either side of each of its limits, the other at its limits and between them.
+/// One count on either side of each of its limits, the other at its limits and between them; and two
+/// counts so large that lengths in 32 bits wrap round to small ones.
 pub fn limit_cases() -> impl Iterator<Item = LimitCase> {
-    let (most_links, most_steps) = (MOST_LINKS as usize, MOST_STEPS as usize);
-    let links = [0, 1, most_links, most_links + 1]
-        .into_iter()
-        .flat_map(move |links| [1, 7, most_steps].map(|steps| Size { links, steps }));
-    let steps = [0, 1, most_steps, most_steps + 1]
-        .into_iter()
-        .flat_map(move |steps| [1, 5, most_links].map(|links| Size { links, steps }));
-    links.chain(steps).map(LimitCase::of_size).chain([no_node(), half_the_words_steps()])
+    let links = [0, 1, 64, 65].into_iter();
+    let links = links.flat_map(|links| [1, 7, 1_440].map(|steps| Size { links, steps }));
+    let steps = [0, 1, 1_440, 1_441].into_iter();
+    let steps = steps.flat_map(|steps| [1, 5, 64].map(|links| Size { links, steps }));
+    links.chain(steps).map(LimitCase::of_size).chain([no_node(), steps_that_wrap_round()])
 }
 
 /// N = 2^32 − 1, for which N + 1 nodes are none at all in 32 bits: the lists of no node.
@@ -103,7 +101,7 @@ fn no_node() -> LimitCase {
 }
 
 /// K = 2^31, for which every length is in 32 bits that of K = 0.
-fn half_the_words_steps() -> LimitCase {
+fn steps_that_wrap_round() -> LimitCase {
     let mut lists = greatest(Size { links: 5, steps: 0 }, false);
     lists.demands[0] = 1 << 31;
     LimitCase { n: 5, k: 1 << 31, lists }

@@ -1,6 +1,6 @@
 //! The host's readers, writers and calls on block files against the model, byte for byte.
 
-use tests::calls::OnSmallStack;
+use tests::calls::{ByFiles, OnSmallStack};
 use tests::compare::{
     compare_file, compare_limit_on_files, compare_three, Series, CALLS_ON_FILES, READERS, WRITERS,
 };
@@ -9,7 +9,7 @@ use tests::host::Host;
 use tests::limits::{greatest, limit_cases};
 use tests::model::files::KINDS;
 use tests::model::{Quick, Size};
-use tests::properties::{assert_check_word_sees_any_one_change, assert_files_come_back};
+use tests::properties::*;
 use tests::random::damage::full_size;
 use tests::random::files::{
     file_case, large_file_case, large_three_files, three_files, FileCase, ThreeFiles,
@@ -119,6 +119,12 @@ fn sizes_around_a_full_block() {
 #[test]
 fn files_come_back() {
     assert_files_come_back(&Host);
+}
+
+/// The converter's plan comes from its file.
+#[test]
+fn held_limit_is_the_smallest() {
+    assert_held_limit_is_the_smallest(&ByFiles(Host));
 }
 
 #[test]
