@@ -59,7 +59,8 @@ read_edit() {
 edits=$(find crates -path 'crates/*/must-fail/*' -type f -name '[!.]*.edit' | sort)
 faults=$(
     for edit in $edits; do read_edit "${edit%/must-fail/*}" "$edit"; done
-    find crates -path '*/must-fail/*' -regextype posix-extended ! -regex 'crates/[^/]+/must-fail/[^/.][^/]*\.edit' -printf '%p: the toolchain passes over this file\n'
+    find crates -path '*/must-fail/*' -regextype posix-extended ! -regex 'crates/[^/]+/must-fail/[^/.][^/]*\.edit' \
+        -printf '%p: the toolchain passes over this file\n'
 )
 [ -n "$edits" ] || faults+="${faults:+$'\n'}crates: there is no must-fail edit"
 if [ -n "$faults" ]; then

@@ -181,8 +181,9 @@ impl<C: NodeCalls> WordCalls for ByNodes<C> {
     }
 }
 
-/// Makes the checker's and the converter's calls on files: the side's writers write them, its reader
-/// reads the plan back. Simulator and normal form have no call on files and stay as they are.
+/// Makes the checker's and the converter's calls on files: the side's writers write them, its
+/// reader reads the plan back. Simulator and normal form have no call on files and stay as they
+/// are.
 pub struct ByFiles<C>(pub C);
 
 impl<C: FileCalls> ByFiles<C> {

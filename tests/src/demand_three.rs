@@ -199,7 +199,8 @@ fn assert_plan(asked: &Asked, record: &[u32], plan: &[u32]) {
     }
 }
 
-/// Full with the smallest rate that gives the flows at full speed; held where none from 0 to C does.
+/// Full with the smallest rate that gives the flows at full speed; held where none from 0 to C
+/// does.
 fn assert_setting(asked: &Asked, record: &[u32], place: (usize, usize), setting: (u32, u32)) {
     let node = asked.input.node(place.1);
     let [vehicles, _, flow, ramp_flow] =

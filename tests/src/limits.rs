@@ -77,8 +77,8 @@ impl LimitCase {
     }
 }
 
-/// One count on either side of each of its limits, the other at its limits and between them; and two
-/// counts so large that lengths in 32 bits wrap round to small ones.
+/// One count on either side of each of its limits, the other at its limits and between them; and
+/// two counts so large that lengths in 32 bits wrap round to small ones.
 pub fn limit_cases() -> impl Iterator<Item = LimitCase> {
     let links = [0, 1, 64, 65].into_iter();
     let links = links.flat_map(|links| [1, 7, 1_440].map(|steps| Size { links, steps }));

@@ -1,5 +1,5 @@
-//! What document 01 says of every record, every merge, every held limit and every block, stated over
-//! what the calls give back: tests of any side, the model and the host alike.
+//! What document 01 says of every record, every merge, every held limit and every block, stated
+//! over what the calls give back: tests of any side, the model and the host alike.
 
 use crate::calls::{FileCalls, WordCalls};
 use crate::compare::Series;
@@ -96,8 +96,8 @@ pub fn long_ramp(random: &mut Random) -> NodeStep {
     }
 }
 
-/// A corridor of one step in which node 1 is the one given. Where it has a next link, that is link 2,
-/// empty and with just the capacity to be received; otherwise node 1 is node N.
+/// A corridor of one step in which node 1 is the one given. Where it has a next link, that is link
+/// 2, empty and with just the capacity to be received; otherwise node 1 is node N.
 struct Alone {
     corridor: Vec<u32>,
     demands: Vec<u32>,
@@ -155,8 +155,8 @@ impl Alone {
     }
 }
 
-/// Rule 5, with what rules 1 to 3 offer written out: each flow is less than one unit below the exact
-/// fraction, and T(f) + r ≤ S.
+/// Rule 5, with what rules 1 to 3 offer written out: each flow is less than one unit below the
+/// exact fraction, and T(f) + r ≤ S.
 pub fn assert_merge_is_close_and_fits(calls: &dyn WordCalls) {
     let mut random = Random::new(4_000_000);
     let mut tight = 0;
@@ -242,8 +242,8 @@ pub fn assert_files_come_back(calls: &dyn FileCalls) {
     assert!(accepted > 500, "files accepted: {accepted}");
 }
 
-/// Any change to just one of words 0..126 of a block that the writer wrote is seen by the reader: 15
-/// at that block.
+/// Any change to just one of words 0..126 of a block that the writer wrote is seen by the reader:
+/// 15 at that block.
 pub fn assert_check_word_sees_any_one_change(calls: &dyn FileCalls) {
     let mut random = Random::new(9_000_000);
     let mut changed = 0;

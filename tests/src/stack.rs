@@ -1,5 +1,5 @@
-//! How much of its stack a thread has left, asked of the C library: what a thread is given may be more
-//! than what was asked for.
+//! How much of its stack a thread has left, asked of the C library: what a thread is given may be
+//! more than what was asked for.
 
 use std::ffi::c_void;
 

@@ -27,7 +27,8 @@ fn of_the_calls_on_nodes() {
     assert_demand_three(&ByNodes(Host), 200, 4);
 }
 
-/// Checker and converter on files; simulator and normal form, which have no call on files, on words.
+/// Checker and converter on files; simulator and normal form, which have no call on files, on
+/// words.
 #[cfg(feature = "files")]
 #[test]
 fn of_the_calls_on_files() {

@@ -10,7 +10,8 @@ pub const DEMAND_WORDS: usize = 2;
 pub const PLAN_WORDS: usize = 2;
 pub const RECORD_WORDS: usize = 4;
 
-/// Numbers of links and steps, and the lengths that follow from them; `new` holds them to the limits.
+/// Numbers of links and steps, and the lengths that follow from them; `new` holds them to the
+/// limits.
 #[derive(Clone, Copy, Debug, PartialEq, Eq)]
 pub struct Size {
     pub links: usize,
