@@ -10,8 +10,9 @@
  * state of 7, the block of 15 to 18; the node is that of 2 to 12; each is 0 elsewhere. A refusal leaves what is lent as it was, but for one: a
  * normal form refused by 12 has its work record filled.
  *
- * The calls keep nothing between them, allocate nothing and need less than 64 KiB of stack. Several threads may call at once, as long as
- * no slice that one writes is used by another.
+ * The calls keep nothing between them, allocate nothing and need less than 64 KiB of stack: the tests make every call below, at 64 links
+ * and 1,440 steps, in a thread created with a stack of 65,536 bytes (Linux, x86-64), of which about 60,000 are left where the call starts.
+ * Several threads may call at once, as long as no slice that one writes is used by another.
  */
 #ifndef GIGORCHID_H
 #define GIGORCHID_H

@@ -1,20 +1,18 @@
 #!/usr/bin/env bash
-# The C header and the C examples: compiled with every warning an error, and run, plainly, under the sanitizers, and under valgrind where
-# that is installed; the example host on the example files.
+# The C header and the C examples: compiled with every warning an error, and run, plainly, under the sanitizers, and under valgrind; the
+# example host on the example files.
 set -euo pipefail
 cd "$(dirname "$0")/../.."
+. .ci/variables.sh
+bash .ci/tools.sh
 rt staticlib host
 work=$(mktemp -d)
 trap 'rm -rf "$work"' EXIT
 strict=(-Wall -Wextra -Wpedantic -Werror -Iinclude)
 
-if command -v g++ > /dev/null; then
-    printf '#include "gigorchid.h"\nint main() { return gigorchid_refusal_text(0) == nullptr; }\n' > "$work/header.cc"
-    g++ -std=c++11 "${strict[@]}" "$work/header.cc" -o "$work/header"
-    "$work/header"
-else
-    echo "g++ is not installed: the header is not tried from C++"
-fi
+printf '#include "gigorchid.h"\nint main() { return gigorchid_refusal_text(0) == nullptr; }\n' > "$work/header.cc"
+g++ -std=c++11 "${strict[@]}" "$work/header.cc" -o "$work/header"
+"$work/header"
 library=target/staticlib/libhost.a
 checks=(-g -fsanitize=address,undefined -fno-sanitize-recover=all)
 gcc -std=c11 -O2 "${strict[@]}" examples/calls.c $library -o "$work/calls"
@@ -38,13 +36,9 @@ for tool in "${tools[@]}"; do
     for case in case1 case3 case4 case6; do run 0 $case "$tool"; done
     run 1 case5 "$tool"
 done
-if command -v valgrind > /dev/null; then
-    valgrind --quiet --error-exitcode=9 "$work/calls"
-    run 0 case1 valgrind --quiet --error-exitcode=9 "$work/host"
-    run 1 case5 valgrind --quiet --error-exitcode=9 "$work/host"
-else
-    echo "valgrind is not installed: the examples are not run under it"
-fi
+valgrind --quiet --error-exitcode=9 "$work/calls"
+run 0 case1 valgrind --quiet --error-exitcode=9 "$work/host"
+run 1 case5 valgrind --quiet --error-exitcode=9 "$work/host"
 
 # refused TEXT N K CORRIDOR DEMANDS RECORD: the host says so
 refused() {

@@ -1,8 +1,10 @@
 //! The product's calls as traits, so that the model, a wrong variant of it and the host all fit
-//! the same comparisons; and two ways to make a call: on nodes, and on a small stack.
+//! the same comparisons; and three ways to make a call: on nodes, on files, and on a small stack.
 
+use crate::model::files::file_bytes;
 use crate::model::lists::{corridor_of, Node, NODE_WORDS};
 use crate::model::{self, answer, Kind, Rules};
+use crate::stack::{stack_left, SMALL_STACK};
 
 /// The calls on word lists. Each answers row × 65,536 + node × 256 + number, 0 for accepted.
 pub trait WordCalls: Sync {
@@ -179,16 +181,78 @@ impl<C: NodeCalls> WordCalls for ByNodes<C> {
     }
 }
 
-/// Makes each call in a thread of its own with a stack of 128 KiB; the lists are on the heap.
-pub struct OnSmallStack<C>(pub C);
+/// Makes the checker's and the converter's calls on files: the side's writers write them, its
+/// reader reads the plan back. Simulator and normal form have no call on files and stay as they
+/// are.
+pub struct ByFiles<C>(pub C);
 
-const SMALL_STACK: usize = 128 * 1024;
+impl<C: FileCalls> ByFiles<C> {
+    /// N, K and the files of three lists, or the first writer's refusal.
+    fn written(&self, lists: [&[u32]; 3]) -> Result<(u32, u32, [Vec<u8>; 3]), u32> {
+        let [Some(&n), Some(&k)] = [lists[0].first(), lists[1].first()] else {
+            return Err(1);
+        };
+        let mut files = lists.map(|words| vec![0; file_bytes(words.len())]);
+        let kinds = [Kind::Corridor, Kind::Demands, Kind::Record];
+        for ((kind, words), file) in kinds.into_iter().zip(lists).zip(&mut files) {
+            match self.0.write(kind, n, k, words, file) {
+                0 => {}
+                refused => return Err(refused),
+            }
+        }
+        Ok((n, k, files))
+    }
+}
+
+impl<C: FileCalls + WordCalls> WordCalls for ByFiles<C> {
+    fn simulate(&self, corridor: &[u32], demands: &[u32], plan: &[u32], record: &mut [u32]) -> u32 {
+        self.0.simulate(corridor, demands, plan, record)
+    }
+
+    fn check(&self, corridor: &[u32], demands: &[u32], record: &[u32]) -> u32 {
+        match self.written([corridor, demands, record]) {
+            Ok((n, k, [a, b, c])) => self.0.check_files(n, k, [&a, &b, &c]),
+            Err(refused) => refused,
+        }
+    }
+
+    fn convert(&self, corridor: &[u32], demands: &[u32], record: &[u32], plan: &mut [u32]) -> u32 {
+        let (n, k, [a, b, c]) = match self.written([corridor, demands, record]) {
+            Ok(written) => written,
+            Err(refused) => return refused,
+        };
+        let mut plan_file = vec![0; file_bytes(plan.len())];
+        match self.0.convert_files(n, k, [&a, &b, &c], &mut plan_file) {
+            0 => self.0.read(Kind::Plan, n, k, &plan_file, plan),
+            refused => refused,
+        }
+    }
+
+    fn normal(
+        &self,
+        corridor: &[u32],
+        demands: &[u32],
+        plan: &[u32],
+        work: &mut [u32],
+        normal: &mut [u32],
+    ) -> u32 {
+        self.0.normal(corridor, demands, plan, work, normal)
+    }
+}
+
+/// Makes each call in a thread of its own with a stack of 64 KiB, all that include/gigorchid.h asks
+/// of a host; the lists are on the heap.
+pub struct OnSmallStack<C>(pub C);
 
 fn on_small_stack(call: impl FnOnce() -> u32 + Send) -> u32 {
     std::thread::scope(|scope| {
         let thread = std::thread::Builder::new().stack_size(SMALL_STACK);
-        let running = thread.spawn_scoped(scope, call).expect("the thread starts");
-        running.join().expect("the call comes back")
+        let running = thread.spawn_scoped(scope, || {
+            let left = stack_left();
+            assert!(left <= SMALL_STACK, "the stack has {left} bytes");
+            call()
+        });
+        running.expect("the thread starts").join().expect("the call comes back")
     })
 }
 

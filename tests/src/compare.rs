@@ -2,6 +2,8 @@
 //! guards around those lists, which no call may touch.
 
 use crate::calls::{FileCalls, Program, WordCalls};
+use crate::limits::LimitCase;
+use crate::model::program::MOST_BYTES;
 use crate::model::Input;
 use crate::random::files::{FileCase, ThreeFiles};
 use crate::random::sound::WordCase;
@@ -82,6 +84,9 @@ fn same_call<C: ?Sized, T: Pattern>(
     Ok((left_answer, left))
 }
 
+/// Names of the calls on word lists, or on nodes, for messages and counts.
+pub const CALLS_ON_LISTS: [&str; 4] = ["simulate", "check", "convert", "normal"];
+
 /// All four calls on word lists.
 pub fn compare_words(
     sides: [&dyn WordCalls; 2],
@@ -161,6 +166,9 @@ pub fn compare_file(
     Ok(())
 }
 
+/// Names of the two calls on files.
+pub const CALLS_ON_FILES: [&str; 2] = ["check files", "convert files"];
+
 /// The checker and the converter on files.
 pub fn compare_three(
     sides: [&dyn FileCalls; 2],
@@ -197,6 +205,43 @@ pub fn compare_program(
     tally.add("held lines", 0, text.lines().filter(|line| line.ends_with(" H")).count() as u64);
     tally.add("full lines", 0, text.lines().filter(|line| line.ends_with(" F")).count() as u64);
     Ok(())
+}
+
+/// Runs a comparison on a case at a limit of N or K: the calls that it makes must all accept within
+/// the limits, and all refuse by 1 beyond them.
+fn compare_limit(
+    case: &LimitCase,
+    calls: &[&'static str],
+    compare: impl Fn(&mut Tally) -> Result<(), String>,
+) -> Result<(), String> {
+    let mut tally = Tally::default();
+    compare(&mut tally).map_err(|text| format!("N = {}, K = {}: {text}", case.n, case.k))?;
+    let answer = u32::from(!case.is_within());
+    calls.iter().for_each(|call| tally.expect(call, &[answer], 1));
+    Ok(())
+}
+
+/// The four calls on words, or on nodes, at a limit of N or K.
+pub fn compare_limit_on_words(sides: [&dyn WordCalls; 2], case: &LimitCase) -> Result<(), String> {
+    compare_limit(case, &CALLS_ON_LISTS, |tally| compare_words(sides, &case.lists, tally))
+}
+
+/// Each reader, each writer and the two calls on files at a limit of N or K.
+pub fn compare_limit_on_files(sides: [&dyn FileCalls; 2], case: &LimitCase) -> Result<(), String> {
+    let calls = [&READERS[..], &WRITERS, &CALLS_ON_FILES].concat();
+    compare_limit(case, &calls, |tally| {
+        case.file_cases().iter().try_for_each(|file| compare_file(sides, file, tally))?;
+        compare_three(sides, &case.three_files(), tally)
+    })
+}
+
+/// The program at a limit of N or K, if it takes an input of that length.
+pub fn compare_limit_of_program(sides: [&dyn Program; 2], case: &LimitCase) -> Result<(), String> {
+    let input = case.three_files().files().concat();
+    if input.len() > MOST_BYTES {
+        return Ok(());
+    }
+    compare_limit(case, &["normal"], |tally| compare_program(sides, &input, tally))
 }
 
 /// A series of random cases: case number j is made from the seed plus j.

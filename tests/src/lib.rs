@@ -3,6 +3,7 @@
 
 pub mod calls;
 pub mod compare;
+pub mod demand_three;
 pub mod examples;
 #[cfg(feature = "host")]
 pub mod host;
@@ -10,8 +11,10 @@ pub mod limits;
 pub mod model;
 #[cfg(feature = "program")]
 pub mod program;
+pub mod properties;
 pub mod random;
 pub mod samples;
+mod stack;
 pub mod sweeps;
 pub mod tally;
 pub mod yardstick;

@@ -1,10 +1,11 @@
 //! Cases that differ from a given one in one place, every place in turn: each word set to each
-//! limit of some range and to the words beside its own, each list and each lent list of another
-//! length. What random damage may miss, these do not.
+//! limit of some range, to the words beside its own and to those that are the same in fewer bits,
+//! each list and each lent list of another length. What random damage may miss, these do not.
 
+use crate::limits::same_in_fewer_bits;
 use crate::model::files::{BLOCK_BYTES, CHECK, KINDS};
 use crate::model::{Kind, Size};
-use crate::random::files::{change_block, file_of, FileCase};
+use crate::random::files::{change_block, FileCase};
 use crate::random::sound::WordCase;
 
 /// Zero and one, the limits in document 01 and the words beyond them.
@@ -27,7 +28,8 @@ const EDGES: [u32; 14] = [
 
 fn other_words(old: u32) -> Vec<u32> {
     let beside = [old.wrapping_add(1), old.wrapping_sub(1)];
-    EDGES.into_iter().chain(beside).filter(|&word| word != old).collect()
+    let others = EDGES.into_iter().chain(beside).chain(same_in_fewer_bits(old));
+    others.filter(|&word| word != old).collect()
 }
 
 /// The four lists of a case, to change one of them.
@@ -82,15 +84,7 @@ fn counting_file(kind: Kind, size: Size) -> FileCase {
     let (n, k) = (size.links as u32, size.steps as u32);
     let mut words: Vec<u32> = (0..kind.words(size) as u32).collect();
     words[0] = [n, k, 0, 0][kind as usize - 1];
-    FileCase {
-        kind,
-        n,
-        k,
-        file: file_of(kind, &words),
-        lent_words: words.len(),
-        lent_file: kind.bytes(size),
-        words,
-    }
+    FileCase::sound(kind, n, k, words)
 }
 
 /// Calls `visit` with files of every kind at that size in which one word is another, with the
@@ -119,7 +113,8 @@ pub fn each_count_told(size: Size, mut visit: impl FnMut(&FileCase)) {
     let beyond = [255, 256, 1_439, 1_440, 1_441, 65_536, 65_537, 1 << 31, u32::MAX];
     for kind in KINDS {
         let case = counting_file(kind, size);
-        for count in (0..=70).chain(beyond) {
+        let low_bits = [case.n, case.k].into_iter().flat_map(same_in_fewer_bits);
+        for count in (0..=70).chain(beyond).chain(low_bits) {
             for (n, k) in [(count, case.k), (case.n, count)] {
                 let told = FileCase { n, k, ..case.clone() };
                 visit(&told);

@@ -1,15 +1,18 @@
 //! The host's readers, writers and calls on block files against the model, byte for byte.
 
-use tests::calls::{FileCalls, OnSmallStack};
-use tests::compare::{compare_file, compare_three, Series, READERS, WRITERS};
+use tests::calls::{ByFiles, OnSmallStack};
+use tests::compare::{
+    compare_file, compare_limit_on_files, compare_three, Series, CALLS_ON_FILES, READERS, WRITERS,
+};
 use tests::examples::assert_file_examples;
 use tests::host::Host;
-use tests::limits::greatest;
+use tests::limits::{greatest, limit_cases};
 use tests::model::files::KINDS;
 use tests::model::{Quick, Size};
+use tests::properties::*;
 use tests::random::damage::full_size;
 use tests::random::files::{
-    file_case, file_of, large_file_case, large_three_files, three_files, FileCase, ThreeFiles,
+    file_case, large_file_case, large_three_files, three_files, FileCase, ThreeFiles,
 };
 use tests::random::Random;
 use tests::sweeps::{each_count_told, each_file_length, each_file_word_changed};
@@ -86,6 +89,13 @@ fn every_place_changed() {
     }
 }
 
+/// Files of just the lengths that a bad N or K tells are refused, and its good neighbours' taken.
+#[test]
+fn limits_of_links_and_steps() {
+    let outcome = limit_cases().try_for_each(|case| compare_limit_on_files([&Quick, &Host], &case));
+    assert_eq!(outcome, Ok(()));
+}
+
 /// Every size with a list that just fills its last block, or is one word longer or shorter.
 #[test]
 fn sizes_around_a_full_block() {
@@ -96,9 +106,7 @@ fn sizes_around_a_full_block() {
         {
             let mut words = vec![u32::MAX; kind.words(size)];
             words[0] = [n, k, 5, 5][kind as usize - 1];
-            let (lent_words, lent_file) = (kind.words(size), kind.bytes(size));
-            let file = file_of(kind, &words);
-            let case = FileCase { kind, n, k, file, words, lent_words, lent_file };
+            let case = FileCase::sound(kind, n, k, words);
             let mut tally = Tally::default();
             assert_eq!(compare_file([&Quick, &Host], &case, &mut tally), Ok(()));
             tally.expect(READERS[kind as usize - 1], &[0], 1);
@@ -108,34 +116,23 @@ fn sizes_around_a_full_block() {
     assert!(sizes > 100, "sizes tried: {sizes}");
 }
 
-/// An accepted file read and rewritten has the same bytes; words written and read come back.
 #[test]
 fn files_come_back() {
-    let mut accepted = 0;
-    let series = Series::new("files come back", 80_000_000, 2_000);
-    let outcome = series.run(file_case, |case| {
-        let FileCase { kind, n, k, file, .. } = case;
-        let mut words = vec![7; case.lent_words];
-        if Host.read(*kind, *n, *k, file, &mut words) != 0 {
-            return Ok(());
-        }
-        accepted += 1;
-        let mut bytes = vec![7; file.len()];
-        let mut again = vec![7; words.len()];
-        let answers = [
-            Host.write(*kind, *n, *k, &words, &mut bytes),
-            Host.read(*kind, *n, *k, &bytes, &mut again),
-        ];
-        match answers == [0, 0] && bytes == *file && again == words {
-            true => Ok(()),
-            false => Err(format!("{kind:?} {n} {k}: not the same")),
-        }
-    });
-    assert_eq!(outcome, Ok(()));
-    assert!(accepted > 500, "files accepted: {accepted}");
+    assert_files_come_back(&Host);
 }
 
-/// Every call at full size in a thread with a stack of 128 KiB.
+/// The converter's plan comes from its file.
+#[test]
+fn held_limit_is_the_smallest() {
+    assert_held_limit_is_the_smallest(&ByFiles(Host));
+}
+
+#[test]
+fn check_word_sees_any_one_change() {
+    assert_check_word_sees_any_one_change(&Host);
+}
+
+/// Every call at full size in a thread with a stack of 64 KiB.
 #[test]
 fn full_size_on_a_small_stack() {
     let size = full_size();
@@ -145,18 +142,10 @@ fn full_size_on_a_small_stack() {
     assert_eq!(compare_three([&Quick, &OnSmallStack(Host)], &three, &mut tally), Ok(()));
     let lists = [words.corridor, words.demands, words.record, words.plan];
     for (kind, words) in KINDS.into_iter().zip(lists) {
-        let case = FileCase {
-            kind,
-            n: 64,
-            k: 1_440,
-            file: file_of(kind, &words),
-            words,
-            lent_words: kind.words(size),
-            lent_file: kind.bytes(size),
-        };
+        let case = FileCase::sound(kind, 64, 1_440, words);
         assert_eq!(compare_file([&Quick, &OnSmallStack(Host)], &case, &mut tally), Ok(()));
     }
-    for call in READERS.into_iter().chain(WRITERS).chain(["check files", "convert files"]) {
+    for call in READERS.into_iter().chain(WRITERS).chain(CALLS_ON_FILES) {
         tally.expect(call, &[0], 1);
     }
 }

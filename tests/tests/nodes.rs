@@ -1,11 +1,12 @@
 //! The host's calls with the corridor as a list of nodes against the model, word for word.
 
 use tests::calls::{ByNodes, OnSmallStack};
-use tests::compare::{compare_words, Series};
+use tests::compare::{compare_limit_on_words, compare_words, Series, CALLS_ON_LISTS};
 use tests::examples::{assert_word_examples, b};
 use tests::host::Host;
-use tests::limits::greatest;
-use tests::model::{Paper, Quick};
+use tests::limits::{greatest, limit_cases};
+use tests::model::{Paper, Quick, Size};
+use tests::properties::*;
 use tests::random::damage::{full_size, large_case, size, small_case};
 use tests::random::sound::{sound_case, WordCase};
 use tests::random::Random;
@@ -65,21 +66,35 @@ fn same_as_on_words() {
     tally.expect("normal", &[0, 12], 100);
 }
 
-/// Lists of 0 to 70 nodes: N is their number less one, and 2 to 65 of them are allowed.
+/// All other lists have just the lengths that the number of nodes tells, none at all included.
 #[test]
-fn every_number_of_nodes() {
-    let mut tally = Tally::default();
-    for nodes in 0..70 {
-        let mut case = greatest(full_size(), false);
-        case.corridor.resize(1 + 9 * nodes, 1);
-        let outcome = compare_words([&ByNodes(Quick), &ByNodes(Host)], &case, &mut tally);
-        assert_eq!(outcome, Ok(()), "{nodes} nodes");
-    }
-    tally.expect("simulate", &[1], 69);
-    tally.expect("simulate", &[0], 1);
+fn limits_of_nodes_and_steps() {
+    let sides = [&ByNodes(Quick) as _, &ByNodes(Host) as _];
+    let outcome = limit_cases().try_for_each(|case| compare_limit_on_words(sides, &case));
+    assert_eq!(outcome, Ok(()));
 }
 
-/// Every call at full size in a thread with a stack of 128 KiB.
+/// Compares a case and asserts that all four calls accept it, or that all refuse it by 1.
+fn assert_all(case: &WordCase, accepted: bool) {
+    let mut tally = Tally::default();
+    assert_eq!(compare_words([&ByNodes(Quick), &ByNodes(Host)], case, &mut tally), Ok(()));
+    CALLS_ON_LISTS.iter().for_each(|call| tally.expect(call, &[u32::from(!accepted)], 1));
+}
+
+/// Lists of 1 to 70 nodes: N is their number less one, and 2 to 65 of them are allowed where the
+/// other lists are for N links too.
+#[test]
+fn every_number_of_nodes() {
+    let most = greatest(full_size(), false);
+    for nodes in 1..=70 {
+        let own = greatest(Size { links: nodes - 1, steps: 3 }, false);
+        assert_all(&own, (2..=65).contains(&nodes));
+        let corridor = own.corridor;
+        assert_all(&WordCase { corridor, ..most.clone() }, nodes == 65);
+    }
+}
+
+/// Every call at full size in a thread with a stack of 64 KiB.
 #[test]
 fn full_size_on_a_small_stack() {
     let mut tally = Tally::default();
@@ -88,7 +103,32 @@ fn full_size_on_a_small_stack() {
         let sides = [&ByNodes(Quick) as _, &OnSmallStack(ByNodes(Host)) as _];
         assert_eq!(compare_words(sides, &case, &mut tally), Ok(()));
     }
-    for call in ["simulate", "check", "convert", "normal"] {
+    for call in CALLS_ON_LISTS {
         tally.expect(call, &[0], 1);
     }
+}
+
+#[test]
+fn vehicles_are_conserved() {
+    assert_vehicles_are_conserved(&ByNodes(Host));
+}
+
+#[test]
+fn cost_is_the_sum_over_later_states() {
+    assert_cost_is_the_sum_over_later_states(&ByNodes(Host));
+}
+
+#[test]
+fn merge_is_close_and_fits() {
+    assert_merge_is_close_and_fits(&ByNodes(Host));
+}
+
+#[test]
+fn flows_are_monotone_in_the_rate() {
+    assert_flows_are_monotone_in_the_rate(&ByNodes(Host));
+}
+
+#[test]
+fn held_limit_is_the_smallest() {
+    assert_held_limit_is_the_smallest(&ByNodes(Host));
 }

@@ -1,7 +1,8 @@
 //! The program `normal` against the model: what it prints, byte for byte.
 
-use tests::compare::{compare_program, Series};
+use tests::compare::{compare_limit_of_program, compare_program, Series};
 use tests::examples::assert_program_examples;
+use tests::limits::limit_cases;
 use tests::model::lists::{MOST_LINKS, MOST_STEPS};
 use tests::model::program::{file_ends, MOST_BYTES};
 use tests::model::{Quick, Size};
@@ -51,6 +52,14 @@ fn longest_inputs() {
         }
     }
     tally.expect("normal", &[0, 14], 5);
+}
+
+/// Inputs of just the length that a bad N or K tells are refused, and its good neighbours' taken.
+#[test]
+fn limits_of_links_and_steps() {
+    let sides = [&Quick as _, &Executable::new() as _];
+    let outcome = limit_cases().try_for_each(|case| compare_limit_of_program(sides, &case));
+    assert_eq!(outcome, Ok(()));
 }
 
 /// A sound input cut at every byte up to the end of K, and beside every later block's end.

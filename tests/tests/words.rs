@@ -1,11 +1,12 @@
 //! The host's calls on word lists against the model: answers and lent lists, word for word.
 
 use tests::calls::{OnSmallStack, WordCalls};
-use tests::compare::{compare_words, Series};
+use tests::compare::{compare_limit_on_words, compare_words, Series, CALLS_ON_LISTS};
 use tests::examples::{assert_word_examples, b};
 use tests::host::Host;
-use tests::limits::greatest;
+use tests::limits::{greatest, limit_cases};
 use tests::model::{Paper, Quick, Size};
+use tests::properties::*;
 use tests::random::damage::{full_size, large_case, short_ramp_case, small_case};
 use tests::random::sound::{sound_case, WordCase};
 use tests::random::Random;
@@ -66,7 +67,14 @@ fn large_inputs() {
     tally.expect_all_happenings(5_000);
 }
 
-/// Every call at full size, accepted and refused, in a thread with a stack of 128 KiB.
+/// Lists of just the lengths that a bad N or K tells are refused, and its good neighbours' taken.
+#[test]
+fn limits_of_links_and_steps() {
+    let outcome = limit_cases().try_for_each(|case| compare_limit_on_words([&Quick, &Host], &case));
+    assert_eq!(outcome, Ok(()));
+}
+
+/// Every call at full size, accepted and refused, in a thread with a stack of 64 KiB.
 #[test]
 fn full_size_on_a_small_stack() {
     let mut cases = vec![greatest(full_size(), true), greatest(full_size(), false)];
@@ -76,8 +84,33 @@ fn full_size_on_a_small_stack() {
         let outcome = compare_words([&Quick, &OnSmallStack(Host)], case, &mut tally);
         assert_eq!(outcome, Ok(()));
     }
-    for call in ["simulate", "check", "convert", "normal"] {
+    for call in CALLS_ON_LISTS {
         tally.expect(call, &[0], 2);
     }
     tally.expect("normal", &[12], 1);
+}
+
+#[test]
+fn vehicles_are_conserved() {
+    assert_vehicles_are_conserved(&Host);
+}
+
+#[test]
+fn cost_is_the_sum_over_later_states() {
+    assert_cost_is_the_sum_over_later_states(&Host);
+}
+
+#[test]
+fn merge_is_close_and_fits() {
+    assert_merge_is_close_and_fits(&Host);
+}
+
+#[test]
+fn flows_are_monotone_in_the_rate() {
+    assert_flows_are_monotone_in_the_rate(&Host);
+}
+
+#[test]
+fn held_limit_is_the_smallest() {
+    assert_held_limit_is_the_smallest(&Host);
 }

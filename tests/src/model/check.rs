@@ -7,7 +7,7 @@ use super::{refuse_if, Input, NodeStep, Outcome, Rules};
 
 /// Whether a record is one that some valid plan has.
 pub fn check<R: Rules>(corridor: &[u32], demands: &[u32], record: &[u32]) -> Outcome {
-    let input = Input::new(corridor, demands)?;
+    let input = Input::by::<R>(corridor, demands)?;
     same_length(record.len(), input.size.record())?;
     R::test_input(&input)?;
     R::check_record(&input, record)

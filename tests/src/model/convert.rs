@@ -20,7 +20,7 @@ pub fn convert<R: Rules>(
     record: &[u32],
     plan: &mut [u32],
 ) -> Outcome {
-    let input = Input::new(corridor, demands)?;
+    let input = Input::by::<R>(corridor, demands)?;
     same_length(record.len(), input.size.record())?;
     same_length(plan.len(), input.size.plan())?;
     R::test_input(&input)?;
@@ -37,7 +37,7 @@ pub fn normal<R: Rules>(
     work: &mut [u32],
     normal: &mut [u32],
 ) -> Outcome {
-    let input = Input::new(corridor, demands)?;
+    let input = Input::by::<R>(corridor, demands)?;
     same_length(plan.len(), input.size.plan())?;
     same_length(work.len(), input.size.record())?;
     same_length(normal.len(), input.size.plan())?;

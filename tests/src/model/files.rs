@@ -42,8 +42,13 @@ impl Kind {
 
     /// The length of the kind's file in bytes.
     pub fn bytes(self, size: Size) -> usize {
-        self.words(size).div_ceil(PAYLOAD_WORDS) * BLOCK_BYTES
+        file_bytes(self.words(size))
     }
+}
+
+/// The length in bytes of a file of so many words.
+pub fn file_bytes(words: usize) -> usize {
+    words.div_ceil(PAYLOAD_WORDS) * BLOCK_BYTES
 }
 
 /// The words of some bytes, low byte first.
@@ -66,7 +71,7 @@ fn test_own_count(kind: Kind, size: Size, words: &[u32]) -> Outcome {
 
 /// Reads a file of that kind into a lent word list.
 pub fn read<R: Rules>(kind: Kind, n: u32, k: u32, file: &[u8], words: &mut [u32]) -> Outcome {
-    let size = Size::new(n, k)?;
+    let size = R::size(n, k)?;
     same_length(words.len(), kind.words(size))?;
     words.copy_from_slice(&R::read_list(kind, size, file)?);
     Ok(())
@@ -77,7 +82,9 @@ pub fn read<R: Rules>(kind: Kind, n: u32, k: u32, file: &[u8], words: &mut [u32]
 pub fn read_list<R: Rules>(kind: Kind, size: Size, file: &[u8]) -> Result<Vec<u32>, Refusal> {
     refuse_if(file.len() != kind.bytes(size), 14, 0, 0)?;
     let mut payload = Vec::with_capacity(file.len() / 4);
+    let mut last = 0;
     for (number, bytes) in file.chunks_exact(BLOCK_BYTES).enumerate() {
+        last = number;
         let block = words_of(bytes);
         for refusal_number in R::BLOCK_ORDER {
             let fault = block_fault::<R>(refusal_number, kind, number, &block);
@@ -86,7 +93,6 @@ pub fn read_list<R: Rules>(kind: Kind, size: Size, file: &[u8]) -> Result<Vec<u3
         payload.extend(&block[FIRST_PAYLOAD..CHECK]);
     }
     // Only the last block has room for padding.
-    let last = file.len() / BLOCK_BYTES - 1;
     let padding = payload.split_off(kind.words(size));
     refuse_if(padding.iter().any(|&word| word != 0), 18, last, 0)?;
     test_own_count(kind, size, &payload)?;
@@ -109,7 +115,7 @@ pub fn block_fault<R: Rules>(
 
 /// Writes a word list into a lent file.
 pub fn write<R: Rules>(kind: Kind, n: u32, k: u32, words: &[u32], file: &mut [u8]) -> Outcome {
-    let size = Size::new(n, k)?;
+    let size = R::size(n, k)?;
     same_length(words.len(), kind.words(size))?;
     same_length(file.len(), kind.bytes(size))?;
     test_own_count(kind, size, words)?;
@@ -142,14 +148,14 @@ pub fn read_three<R: Rules>(size: Size, files: [&[u8]; 3]) -> Result<[Vec<u32>; 
 
 /// The checker on files of corridor, demands and record.
 pub fn check_files<R: Rules>(n: u32, k: u32, files: [&[u8]; 3]) -> Outcome {
-    let size = Size::new(n, k)?;
+    let size = R::size(n, k)?;
     let [corridor, demands, record] = read_three::<R>(size, files)?;
     check::<R>(&corridor, &demands, &record)
 }
 
 /// The converter on such files; it writes a plan file.
 pub fn convert_files<R: Rules>(n: u32, k: u32, files: [&[u8]; 3], plan_file: &mut [u8]) -> Outcome {
-    let size = Size::new(n, k)?;
+    let size = R::size(n, k)?;
     same_length(plan_file.len(), Kind::Plan.bytes(size))?;
     let [corridor, demands, record] = read_three::<R>(size, files)?;
     let mut plan = vec![0; size.plan()];

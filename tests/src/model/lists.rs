@@ -1,7 +1,7 @@
 //! The word lists of document 01: their lengths, where each word stands, and refusals 1 to 6,
 //! which concern the corridor, the demands and the plan.
 
-use super::{refusal, refuse_if, Outcome, Refusal, Rules, MOST_QUEUE_LIMIT, WHOLE};
+use super::{refusal, refuse_if, Outcome, Quick, Refusal, Rules, MOST_QUEUE_LIMIT, WHOLE};
 
 pub const MOST_LINKS: u32 = 64;
 pub const MOST_STEPS: u32 = 1_440;
@@ -10,7 +10,8 @@ pub const DEMAND_WORDS: usize = 2;
 pub const PLAN_WORDS: usize = 2;
 pub const RECORD_WORDS: usize = 4;
 
-/// Numbers of links and steps, both within limits.
+/// Numbers of links and steps, and the lengths that follow from them; `new` holds them to the
+/// limits.
 #[derive(Clone, Copy, Debug, PartialEq, Eq)]
 pub struct Size {
     pub links: usize,
@@ -120,15 +121,25 @@ pub struct Input<'a> {
 }
 
 impl<'a> Input<'a> {
-    /// Refusal 1 as far as these two lists go; N and K are their first words.
+    /// Two lists within the limits of document 01.
     pub fn new(corridor: &'a [u32], demands: &'a [u32]) -> Result<Input<'a>, Refusal> {
+        Input::by::<Quick>(corridor, demands)
+    }
+
+    /// Refusal 1 as far as these two lists go; N and K are their first words.
+    pub fn by<R: Rules>(corridor: &'a [u32], demands: &'a [u32]) -> Result<Input<'a>, Refusal> {
         let bad = refusal(1, 0, 0);
         let n = *corridor.first().ok_or(bad)?;
         let k = *demands.first().ok_or(bad)?;
-        let size = Size::new(n, k)?;
+        let size = R::size(n, k)?;
         same_length(corridor.len(), size.corridor())?;
         same_length(demands.len(), size.demands())?;
-        Ok(Input { size, corridor, demands })
+        Ok(Input::of_size(size, corridor, demands))
+    }
+
+    /// Lists that have the lengths of a size, which may be beyond the limits.
+    pub fn of_size(size: Size, corridor: &'a [u32], demands: &'a [u32]) -> Input<'a> {
+        Input { size, corridor, demands }
     }
 
     pub fn node(&self, i: usize) -> Node {

@@ -23,7 +23,7 @@ fn plan_text<R: Rules>(bytes: &[u8]) -> Result<String, Refusal> {
     refuse_if(bytes.len() != ends[2], 14, 0, 0)?;
     let files = [&bytes[..ends[0]], &bytes[ends[0]..ends[1]], &bytes[ends[1]..]];
     let [corridor, demands, record] = read_three::<R>(size, files)?;
-    let input = Input::new(&corridor, &demands)?;
+    let input = Input::by::<R>(&corridor, &demands)?;
     R::test_input(&input)?;
     R::check_record(&input, &record)?;
     Ok(lines::<R>(&input, &record))
@@ -38,10 +38,10 @@ pub fn file_ends(size: Size) -> [usize; 3] {
 
 /// N is word 2 of the corridor's first block, K that of the demands' first block; N is judged
 /// before K is looked for.
-pub fn program_size(bytes: &[u8]) -> Result<Size, Refusal> {
+pub fn program_size<R: Rules>(bytes: &[u8]) -> Result<Size, Refusal> {
     let n = word_two(bytes, 0)?;
-    let corridor_end = file_ends(Size::new(n, 1)?)[0];
-    Size::new(n, word_two(bytes, corridor_end)?)
+    let corridor_end = file_ends(R::size(n, 1)?)[0];
+    R::size(n, word_two(bytes, corridor_end)?)
 }
 
 /// Word 2 of the block that begins at a byte; 14 if the input ends before its last byte.

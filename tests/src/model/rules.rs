@@ -49,6 +49,11 @@ pub trait Rules: Sync + Sized {
     /// Tests of one block of a file.
     const BLOCK_ORDER: [u32; 3] = [15, 16, 17];
 
+    /// The size that N and K tell, or refusal 1 for a bad one.
+    fn size(n: u32, k: u32) -> Result<Size, Refusal> {
+        Size::new(n, k)
+    }
+
     /// Rule 1. Node 0 has no link: its n and F are zero, and so is D.
     fn sending(at: &NodeStep, limit: u64) -> u64 {
         (at.vehicles * limit / WHOLE).min(at.capacity)
@@ -168,7 +173,7 @@ pub trait Rules: Sync + Sized {
 
     /// N and K that the program takes from its input.
     fn program_size(input: &[u8]) -> Result<Size, Refusal> {
-        super::program::program_size(input)
+        super::program::program_size::<Self>(input)
     }
 }
 

@@ -10,7 +10,7 @@ pub fn simulate<R: Rules>(
     plan: &[u32],
     record: &mut [u32],
 ) -> Outcome {
-    let input = Input::new(corridor, demands)?;
+    let input = Input::by::<R>(corridor, demands)?;
     same_length(plan.len(), input.size.plan())?;
     same_length(record.len(), input.size.record())?;
     R::test_input(&input)?;

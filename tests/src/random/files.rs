@@ -5,7 +5,7 @@ use super::damage::{cut_or_extend, full_size, mixed_case, other_length, size};
 use super::sound::WordCase;
 use super::Random;
 use crate::model::files::{
-    words_of, write_blocks, BLOCK_BYTES, CHECK, FIRST_PAYLOAD, KINDS, PAYLOAD_WORDS,
+    file_bytes, words_of, write_blocks, BLOCK_BYTES, CHECK, FIRST_PAYLOAD, KINDS,
 };
 use crate::model::lists::{MOST_LINKS, MOST_STEPS};
 use crate::model::program::{file_ends, MOST_BYTES};
@@ -21,6 +21,15 @@ pub struct FileCase {
     pub words: Vec<u32>,
     pub lent_words: usize,
     pub lent_file: usize,
+}
+
+impl FileCase {
+    /// The file of those words, and lent lists of their lengths.
+    pub fn sound(kind: Kind, n: u32, k: u32, words: Vec<u32>) -> FileCase {
+        let file = file_of(kind, &words);
+        let (lent_words, lent_file) = (words.len(), file.len());
+        FileCase { kind, n, k, file, words, lent_words, lent_file }
+    }
 }
 
 /// What checker and converter on files take.
@@ -41,20 +50,27 @@ impl ThreeFiles {
 
     /// The files of a case's lists, whatever their words and lengths.
     pub fn of_case(size: Size, case: &WordCase) -> ThreeFiles {
+        let lent_plan_file = Kind::Plan.bytes(size);
+        let (n, k) = (size.links as u32, size.steps as u32);
+        ThreeFiles { lent_plan_file, ..ThreeFiles::told(n, k, case) }
+    }
+
+    /// The same with any N and K told, and a file lent for the case's own plan.
+    pub fn told(n: u32, k: u32, case: &WordCase) -> ThreeFiles {
         ThreeFiles {
-            n: size.links as u32,
-            k: size.steps as u32,
+            n,
+            k,
             corridor: file_of(Kind::Corridor, &case.corridor),
             demands: file_of(Kind::Demands, &case.demands),
             record: file_of(Kind::Record, &case.record),
-            lent_plan_file: Kind::Plan.bytes(size),
+            lent_plan_file: file_bytes(case.plan.len()),
         }
     }
 }
 
 /// A file of any words.
 pub fn file_of(kind: Kind, words: &[u32]) -> Vec<u8> {
-    let mut file = vec![0; words.len().div_ceil(PAYLOAD_WORDS) * BLOCK_BYTES];
+    let mut file = vec![0; file_bytes(words.len())];
     write_blocks::<Quick>(kind, words, &mut file);
     file
 }
@@ -77,15 +93,7 @@ pub fn large_file_case(random: &mut Random) -> FileCase {
 fn sized_file_case(random: &mut Random, size: Size) -> FileCase {
     let kind = random.pick(&KINDS);
     let words = any_words(random, kind, size);
-    let mut case = FileCase {
-        kind,
-        n: size.links as u32,
-        k: size.steps as u32,
-        file: file_of(kind, &words),
-        words,
-        lent_words: kind.words(size),
-        lent_file: kind.bytes(size),
-    };
+    let mut case = FileCase::sound(kind, size.links as u32, size.steps as u32, words);
     for _ in 0..random.pick(&[0, 1, 1, 2]) {
         damage_file_case(random, &mut case);
     }
@@ -93,7 +101,7 @@ fn sized_file_case(random: &mut Random, size: Size) -> FileCase {
 }
 
 /// Words of any values under the right N or K; in some lists half are zero, in some nearly all.
-fn any_words(random: &mut Random, kind: Kind, size: Size) -> Vec<u32> {
+pub fn any_words(random: &mut Random, kind: Kind, size: Size) -> Vec<u32> {
     let one_in = random.pick(&[2, 2, 20]);
     let mut words = vec![0; kind.words(size)];
     for word in &mut words {

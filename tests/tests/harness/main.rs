@@ -2,8 +2,10 @@
 //! model by the very comparisons that the host is run by, and must be found out.
 
 mod files;
+mod limits;
 mod outputs;
 mod program;
+mod properties;
 mod records;
 mod steps;
 
@@ -91,6 +93,16 @@ fn wrong_programs_are_found() {
     for (name, variant) in program::variants().into_iter().chain(program::text_variants()) {
         assert_found(name, program_outcome(variant));
     }
+}
+
+#[test]
+fn wrong_limits_are_found() {
+    limits::assert_wide_limits_found();
+}
+
+#[test]
+fn wrong_variants_break_the_properties() {
+    properties::assert_properties_broken();
 }
 
 /// The other way round: where there is no difference none is reported.

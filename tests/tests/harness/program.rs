@@ -10,7 +10,7 @@ wrong! { variants: Program;
     BlocksBeforeCounts {
         fn program_size(bytes: &[u8]) -> Result<Size, Refusal> {
             refuse_if(!bytes.len().is_multiple_of(512), 14, 0, 0)?;
-            program_size(bytes)
+            program_size::<Quick>(bytes)
         }
     }
 
@@ -18,7 +18,7 @@ wrong! { variants: Program;
     MissingStepsAreBad {
         fn program_size(bytes: &[u8]) -> Result<Size, Refusal> {
             let missing = bytes.len() >= 12;
-            program_size(bytes).map_err(|refused| if missing { refusal(1, 0, 0) } else { refused })
+            program_size::<Quick>(bytes).map_err(|refused| if missing { refusal(1, 0, 0) } else { refused })
         }
     }
 
@@ -30,7 +30,7 @@ wrong! { variants: Program;
                 let file = &bytes[..file_ends(size)[0].min(bytes.len())];
                 Quick::read_list(tests::model::Kind::Corridor, size, file)?;
             }
-            program_size(bytes)
+            program_size::<Quick>(bytes)
         }
     }
 }

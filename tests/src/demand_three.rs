@@ -1,0 +1,308 @@
+//! Demand 3 by trying everything on tiny corridors: all valid plans, and all proposals with flows
+//! up to one beyond what can flow. Asked of any side; the side's own simulator alone says which
+//! records there are and what a rate gives.
+
+use crate::calls::WordCalls;
+use crate::model::lists::{corridor_of, Node};
+use crate::model::simulate::entry;
+use crate::model::{check, Input, Quick, Rules, Size};
+use crate::random::records::record_of_flows;
+use crate::random::Random;
+use crate::tally::{Tally, SETTINGS};
+use std::collections::{BTreeMap, BTreeSet};
+
+/// A corridor with few settings and its demands.
+struct Tiny {
+    corridor: Vec<u32>,
+    demands: Vec<u32>,
+}
+
+/// What the links of a tiny corridor are like.
+#[derive(Clone, Copy)]
+enum Links {
+    /// Many vehicles at low limits: n × v / 65,536 takes few values, so every limit can be tried.
+    Slow,
+    /// Few vehicles at any speed; for one step only, as the limits tried are those of the start.
+    Short,
+}
+
+/// A link's F, V, W, J and starting n.
+fn link(random: &mut Random, links: Links, most: u64) -> [u32; 5] {
+    let capacity = random.within(most / 2, most + 1);
+    let [speed, wave, jam, vehicles] = match links {
+        Links::Slow => {
+            let vehicles = random.pick(&[0, 32_768, 40_000, 50_000, 60_000, 65_536]);
+            [random.within(most.div_ceil(2), most), random.within(1, 16), 65_536, vehicles]
+        }
+        Links::Short => {
+            let jam = random.within(most, 2 * most);
+            let speeds = [random.within(20_000, 65_535), 65_536];
+            let vehicles = random.within(0, jam);
+            [random.pick(&speeds), random.within(20_000, 65_536), jam, vehicles]
+        }
+    };
+    [capacity, speed, wave, jam, vehicles].map(|word| word as u32)
+}
+
+fn tiny_node(random: &mut Random, i: usize, size: Size, links: Links, most: u64) -> Node {
+    let link = match i {
+        0 => [0; 5],
+        _ => link(random, links, most),
+    };
+    let ramp = u32::from(i < size.links);
+    let queue_limit = random.within(0, 5) + random.pick(&[0, 20, 20]);
+    Node {
+        identifier: 100 + i as u32,
+        capacity: link[0],
+        full_speed: link[1],
+        wave_speed: link[2],
+        jam: link[3],
+        ramp_capacity: ramp * random.within(most / 2, most) as u32,
+        queue_limit: ramp * queue_limit as u32,
+        start_vehicles: link[4],
+        start_queue: ramp * random.within(0, queue_limit.min(5)) as u32,
+    }
+}
+
+fn tiny(random: &mut Random, size: Size, links: Links, most: u64) -> Tiny {
+    let all = 0..size.nodes();
+    let nodes: Vec<Node> = all.map(|i| tiny_node(random, i, size, links, most)).collect();
+    let mut demands = vec![size.steps as u32];
+    for _ in 0..size.steps {
+        for i in 0..size.nodes() {
+            let arrivals = random.below(4) as u32 * u32::from(i < size.links);
+            let split = random.pick(&[0, 1, 20_000, 32_768, 40_000, 65_536]);
+            demands.extend([arrivals, split * u32::from(i > 0 && i < size.links)]);
+        }
+    }
+    Tiny { corridor: corridor_of(&nodes), demands }
+}
+
+/// Calls `visit` with every list whose word j is one of `choices[j]`.
+fn for_all(choices: &[Vec<u32>], mut visit: impl FnMut(&[u32])) {
+    let mut chosen = vec![0; choices.len()];
+    loop {
+        let words: Vec<u32> = chosen.iter().zip(choices).map(|(&j, from)| from[j]).collect();
+        visit(&words);
+        let Some(place) = (0..choices.len()).find(|&j| chosen[j] + 1 < choices[j].len()) else {
+            return;
+        };
+        chosen[place] += 1;
+        chosen[..place].fill(0);
+    }
+}
+
+/// The limits to try: all of them, or, where they are many, one for each number of vehicles that
+/// any limit sends, and V. A record depends on a limit by what it sends only.
+fn limits(node: &Node) -> Vec<u32> {
+    if node.full_speed <= 8 {
+        return (0..=node.full_speed).collect();
+    }
+    let sent = |limit: u32| u64::from(node.start_vehicles) * u64::from(limit) / 65_536;
+    let first_of_its_kind = |&limit: &u32| limit == 0 || sent(limit) != sent(limit - 1);
+    let below = (0..node.full_speed).filter(first_of_its_kind);
+    below.chain([node.full_speed]).collect()
+}
+
+/// The rates and limits to try for each step and node.
+fn plan_choices(input: &Input) -> Vec<Vec<u32>> {
+    let nodes = (0..input.size.nodes()).map(|i| input.node(i));
+    let rates_and_limits = |node: Node| [(0..=node.ramp_capacity).collect(), limits(&node)];
+    let one_step: Vec<Vec<u32>> = nodes.flat_map(rates_and_limits).collect();
+    vec![one_step; input.size.steps].concat()
+}
+
+fn within_bounds(input: &Input, plan: &[u32]) -> bool {
+    plan.chunks_exact(2).enumerate().all(|(place, setting)| {
+        let node = input.node(place % input.size.nodes());
+        setting[0] <= node.ramp_capacity && setting[1] <= node.full_speed
+    })
+}
+
+fn queues_hold(input: &Input, record: &[u32]) -> bool {
+    let later = 1..=input.size.steps;
+    later
+        .flat_map(|k| (0..input.size.nodes()).map(move |i| (k, i)))
+        .all(|(k, i)| record[input.size.record_place(k, i) + 1] <= input.node(i).queue_limit)
+}
+
+/// A side, and the corridor and demands that it is asked about.
+struct Asked<'a> {
+    calls: &'a dyn WordCalls,
+    corridor: &'a [u32],
+    demands: &'a [u32],
+    input: Input<'a>,
+}
+
+impl<'a> Asked<'a> {
+    fn new(calls: &'a dyn WordCalls, tiny: &'a Tiny) -> Asked<'a> {
+        let (corridor, demands) = (&tiny.corridor, &tiny.demands);
+        let input = Input::new(corridor, demands).expect("of right lengths");
+        assert_eq!(Quick::test_input(&input), Ok(()));
+        Asked { calls, corridor, demands, input }
+    }
+
+    fn simulated(&self, plan: &[u32]) -> Vec<u32> {
+        let mut record = vec![7; self.input.size.record()];
+        assert_eq!(self.calls.simulate(self.corridor, self.demands, plan, &mut record), 0);
+        record
+    }
+
+    /// f and r of node i at step k with that rate and V: the same node in a corridor of one step
+    /// that starts in the record's state k.
+    fn at_full_speed(&self, record: &[u32], (k, i): (usize, usize), rate: u32) -> (u32, u32) {
+        let mut corridor = self.corridor.to_vec();
+        for j in 0..self.input.size.nodes() {
+            let now = self.input.size.record_place(k, j);
+            corridor[1 + 9 * j + 7..1 + 9 * j + 9].copy_from_slice(&record[now..now + 2]);
+        }
+        let one_step = Size { steps: 1, ..self.input.size };
+        let row = 1 + self.input.size.plan_place(k, 0)..1 + self.input.size.plan_place(k + 1, 0);
+        let demands = [&[1], &self.demands[row]].concat();
+        let mut plan = vec![0; one_step.plan()];
+        (plan[2 * i], plan[2 * i + 1]) = (rate, self.input.node(i).full_speed);
+        let mut record = vec![7; one_step.record()];
+        assert_eq!(self.calls.simulate(&corridor, &demands, &plan, &mut record), 0);
+        (record[4 * i + 2], record[4 * i + 3])
+    }
+}
+
+/// The records of all valid plans, each with the one normal form that all its plans must share.
+fn records_of_valid_plans(asked: &Asked) -> BTreeMap<Vec<u32>, Vec<u32>> {
+    let (input, mut records) = (&asked.input, BTreeMap::new());
+    for_all(&plan_choices(input), |plan| {
+        let record = asked.simulated(plan);
+        let mut work = vec![7; input.size.record()];
+        let mut form = vec![7; input.size.plan()];
+        let answer = asked.calls.normal(asked.corridor, asked.demands, plan, &mut work, &mut form);
+        assert_eq!(answer == 0, queues_hold(input, &record));
+        assert_eq!(work, record);
+        if answer == 0 {
+            let first = records.entry(record).or_insert(form.clone());
+            assert_eq!(*first, form, "same record, same normal form");
+        }
+    });
+    records
+}
+
+/// The plan of an accepted record: has it, is valid, is set full or held as the paper says.
+fn assert_plan(asked: &Asked, record: &[u32], plan: &[u32]) {
+    let input = &asked.input;
+    assert!(within_bounds(input, plan));
+    assert_eq!(asked.simulated(plan), record);
+    assert!(queues_hold(input, record));
+    for k in 0..input.size.steps {
+        for i in 0..input.size.nodes() {
+            let place = input.size.plan_place(k, i);
+            assert_setting(asked, record, (k, i), (plan[place], plan[place + 1]));
+        }
+    }
+}
+
+/// Full with the smallest rate that gives the flows at full speed; held where none from 0 to C
+/// does.
+fn assert_setting(asked: &Asked, record: &[u32], place: (usize, usize), setting: (u32, u32)) {
+    let node = asked.input.node(place.1);
+    let [vehicles, _, flow, ramp_flow] =
+        entry(check::state(&asked.input, record, place.0), place.1);
+    let wanted = (flow as u32, ramp_flow as u32);
+    let mut rates = 0..=node.ramp_capacity;
+    match rates.find(|&rate| asked.at_full_speed(record, place, rate) == wanted) {
+        Some(smallest) => assert_eq!(setting, (smallest, node.full_speed)),
+        None => {
+            assert!(setting.1 < node.full_speed);
+            let mut limits = 0..=node.full_speed;
+            let smallest = limits.find(|&v| vehicles * u64::from(v) / 65_536 == flow);
+            assert_eq!((setting.0, Some(setting.1)), (wanted.1, smallest));
+        }
+    }
+}
+
+/// The converter and the checker on one proposal: accepted exactly when some valid plan has it.
+fn assert_proposal(asked: &Asked, records: &BTreeMap<Vec<u32>, Vec<u32>>, record: &[u32]) -> bool {
+    let form = records.get(record);
+    let as_lent = vec![7; asked.input.size.plan()];
+    let mut plan = as_lent.clone();
+    let answer = asked.calls.convert(asked.corridor, asked.demands, record, &mut plan);
+    assert_eq!(answer == 0, form.is_some(), "{answer} {record:?}");
+    assert_eq!(answer, asked.calls.check(asked.corridor, asked.demands, record));
+    assert_eq!(plan, *form.unwrap_or(&as_lent));
+    form.is_some()
+}
+
+/// The f and r to propose at each step and node: all up to one beyond what can ever flow there.
+fn flow_choices(input: &Input) -> Vec<Vec<u32>> {
+    let mut choices: Vec<Vec<u32>> = vec![];
+    for i in 0..input.size.nodes() {
+        let node = input.node(i);
+        let most = node.capacity.min(if node.full_speed > 8 { node.jam } else { node.full_speed });
+        choices.push((0..=most + u32::from(i > 0)).collect());
+        choices.push((0..=node.ramp_capacity + u32::from(i < input.size.links)).collect());
+    }
+    vec![choices; input.size.steps].concat()
+}
+
+/// Everything on one corridor; how many proposals were accepted and how many refused.
+fn try_corridor(asked: &Asked, tally: &mut Tally) -> [u64; 2] {
+    let input = &asked.input;
+    let records = records_of_valid_plans(asked);
+    let forms: BTreeSet<_> = records.values().collect();
+    assert_eq!(forms.len(), records.len(), "different records, different normal forms");
+    let mut counts = [0; 2];
+    for (record, form) in &records {
+        assert_plan(asked, record, form);
+        tally.settings(input, form);
+        for place in 0..record.len() {
+            for by in [1, u32::MAX] {
+                let mut other = record.clone();
+                other[place] = other[place].wrapping_add(by);
+                counts[usize::from(!assert_proposal(asked, &records, &other))] += 1;
+            }
+        }
+    }
+    for_all(&flow_choices(input), |flows| {
+        let record = record_of_flows(input, |k, i, _| {
+            let place = input.size.plan_place(k, i);
+            (flows[place].into(), flows[place + 1].into())
+        });
+        counts[usize::from(!assert_proposal(asked, &records, &record))] += 1;
+    });
+    counts
+}
+
+fn try_corridors(
+    calls: &dyn WordCalls,
+    seed: u64,
+    count: usize,
+    size: Size,
+    (links, most): (Links, u64),
+) {
+    let mut random = Random::new(seed);
+    let mut tally = Tally::default();
+    for _ in 0..count {
+        let tiny = tiny(&mut random, size, links, most);
+        let [accepted, refused] = try_corridor(&Asked::new(calls, &tiny), &mut tally);
+        tally.add("proposals accepted", 0, accepted);
+        tally.add("proposals refused", 0, refused);
+    }
+    tally.print();
+    for name in ["proposals accepted", "proposals refused"] {
+        tally.expect(name, &[0], count as u64);
+    }
+    let inner = size.links > 1;
+    for name in SETTINGS.into_iter().filter(|name| inner || !name.contains("inner")) {
+        tally.expect(name, &[0], count as u64 / 4);
+    }
+}
+
+/// Demand 3 of a side, on corridors of all these sizes made from that seed, one in `part` of them.
+pub fn assert_demand_three(calls: &dyn WordCalls, seed: u64, part: usize) {
+    let size = |links, steps| Size { links, steps };
+    try_corridors(calls, seed + 1, 500 / part, size(1, 1), (Links::Slow, 4));
+    try_corridors(calls, seed + 2, 100 / part, size(1, 2), (Links::Slow, 4));
+    try_corridors(calls, seed + 3, 1_000 / part, size(2, 1), (Links::Slow, 4));
+    try_corridors(calls, seed + 4, 60 / part, size(2, 2), (Links::Slow, 2));
+    try_corridors(calls, seed + 5, 300 / part, size(3, 1), (Links::Slow, 2));
+    try_corridors(calls, seed + 6, 1_000 / part, size(2, 1), (Links::Short, 4));
+    try_corridors(calls, seed + 7, 300 / part, size(3, 1), (Links::Short, 2));
+}

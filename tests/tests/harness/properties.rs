@@ -1,0 +1,82 @@
+//! Shows that demand 3 and the properties bite: each fails for wrong variants that contradict it.
+
+use super::{files, outputs, steps, wrong};
+use std::any::Any;
+use std::panic::{catch_unwind, AssertUnwindSafe};
+use tests::calls::{FileCalls, WordCalls};
+use tests::demand_three::assert_demand_three;
+use tests::model::{NodeStep, Quick};
+use tests::properties::*;
+
+wrong! { rate_variants: WordCalls;
+    /// Rates 0 and 1 change places, 2 and 3, and so on.
+    RatesInPairsSwapped {
+        fn ramp_offer(at: &NodeStep, rate: u64) -> u64 {
+            Quick::ramp_offer(at, rate ^ 1)
+        }
+    }
+}
+
+/// What a property is asked of, and the names of variants for which it fails.
+type Broken<C> = (fn(&C), &'static [&'static str]);
+
+const OF_WORDS: [Broken<dyn WordCalls>; 6] = [
+    (|calls| assert_vehicles_are_conserved(calls), &["ThroughRoundedDown", "EverythingThrough"]),
+    (
+        |calls| assert_cost_is_the_sum_over_later_states(calls),
+        &["CostIn32Bits", "CostWithStateZero"],
+    ),
+    (|calls| assert_merge_is_close_and_fits(calls), &["RampTakesTheRest", "MainlineFirst"]),
+    (|calls| assert_flows_are_monotone_in_the_rate(calls), &["RatesInPairsSwapped"]),
+    (
+        |calls| assert_held_limit_is_the_smallest(calls),
+        &["HeldLimitRoundedDown", "HeldAtLargestLimit"],
+    ),
+    (
+        |calls| assert_demand_three(calls, 400, 4),
+        &[
+            "PlanUnchanged",
+            "RefusesAll",
+            "OneFixedPlan",
+            "OutputLeftAsLent",
+            "HeldEverywhere",
+            "FullEverywhere",
+            "LargestRate",
+            "RampFlowTriedOnly",
+            "RampSearchedOnly",
+            "MainlineSearchedOnly",
+            "HeldLimitRoundedDown",
+            "HeldAtLargestLimit",
+        ],
+    ),
+];
+
+const OF_FILES: [Broken<dyn FileCalls>; 2] = [
+    (|calls| assert_files_come_back(calls), &["PaddingUntested", "BytesLeftOver"]),
+    (|calls| assert_check_word_sees_any_one_change(calls), &["LastWordNotSummed", "OtherWeights"]),
+];
+
+/// What a failed assertion says, in either form that it can have.
+fn text_of(failure: Box<dyn Any + Send>) -> String {
+    let whole = failure.downcast_ref::<&str>().map(ToString::to_string);
+    whole.or(failure.downcast_ref::<String>().cloned()).unwrap_or_default()
+}
+
+/// Passes if an assertion of each property fails for each of its variants, which are among those
+/// listed; a variant that fails by itself, as by a division by zero, shows nothing.
+fn assert_broken<C: ?Sized>(properties: &[Broken<C>], variants: &[(&'static str, &'static C)]) {
+    for (property, names) in properties {
+        for name in *names {
+            let (_, variant) = variants.iter().find(|(known, _)| known == name).expect("listed");
+            let outcome = catch_unwind(AssertUnwindSafe(|| property(variant)));
+            let text = outcome.map_or_else(text_of, |()| "nothing found".to_string());
+            assert!(text.starts_with("assertion"), "{name}: {text}");
+        }
+    }
+}
+
+pub fn assert_properties_broken() {
+    let words = [steps::variants(), outputs::variants(), rate_variants()].concat();
+    assert_broken(&OF_WORDS, &words);
+    assert_broken(&OF_FILES, &files::variants());
+}
