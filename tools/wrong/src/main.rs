@@ -52,11 +52,17 @@ fn run(options: &Options) -> Result<(), String> {
         chosen.iter().flat_map(|entry| &entry.1).for_each(report::list);
         return Ok(());
     }
-    let made: Vec<&Crate> = chosen.iter().map(|entry| entry.0).collect();
-    tries::prove_needs(&repo, &made, options.jobs)?;
     let mut report = Report::default();
-    for (made, changes) in &chosen {
-        tries::try_all(&repo, made, changes, options, &mut report)?;
+    if options.said {
+        for (made, changes) in &chosen {
+            tries::judge_again(&repo, made, changes, &mut report);
+        }
+    } else {
+        let made: Vec<&Crate> = chosen.iter().map(|entry| entry.0).collect();
+        tries::prove_needs(&repo, &made, options.jobs)?;
+        for (made, changes) in &chosen {
+            tries::try_all(&repo, made, changes, options, &mut report)?;
+        }
     }
     report.finish();
     Ok(())

@@ -17,6 +17,7 @@ wrong: make wrong programs of crates, one change at a time, and see which of the
   --from CRATE:N    start at this change, to go on after an interruption
   --jobs N          checks at a time (default 2)
   --limit SECONDS   stop a check that takes longer (default 600)
+  --said            judge again what the checks of an earlier run said, and check nothing
   --whole           a whole check for each change, in place of one from the incremental folder
 
 kinds of change
@@ -47,6 +48,7 @@ pub struct Options {
     pub from: Option<(String, usize)>,
     pub jobs: usize,
     pub limit: Duration,
+    pub said: bool,
     pub whole: bool,
 }
 
@@ -63,12 +65,14 @@ impl Options {
             from: None,
             jobs: 2,
             limit: Duration::from_secs(600),
+            said: false,
             whole: false,
         };
         let mut rest = words.iter();
         while let Some(word) = rest.next() {
             match word.as_str() {
                 "--list" => options.list = true,
+                "--said" => options.said = true,
                 "--whole" => options.whole = true,
                 option if option.starts_with("--") => {
                     let value = rest.next().ok_or(format!("{option} takes a value"))?;

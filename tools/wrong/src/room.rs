@@ -86,7 +86,8 @@ impl Room {
         command.stdin(Stdio::null()).stdout(said.try_clone()?).stderr(said);
         let began = Instant::now();
         let status = wait(command.spawn()?, began + self.limit)?;
-        let said = String::from_utf8_lossy(&fs::read(&self.log)?).into_owned();
+        let folder = format!("{}/", self.crate_folder.display());
+        let said = String::from_utf8_lossy(&fs::read(&self.log)?).replace(&folder, "");
         Ok(Outcome { status, said, seconds: began.elapsed().as_secs_f64() })
     }
 }

@@ -4,12 +4,12 @@ use crate::changes::Change;
 use crate::options::Options;
 use crate::report::{Report, Tried};
 use crate::repository::{Crate, Repository};
-use crate::room::Room;
-use crate::verdict::{judge, Verdict};
+use crate::room::{Outcome, Room};
+use crate::verdict::{judge, Verdict, PROVED};
 use std::collections::BTreeMap;
 use std::fs;
 use std::io;
-use std::path::Path;
+use std::path::{Path, PathBuf};
 use std::process::Command;
 use std::sync::atomic::{AtomicUsize, Ordering};
 use std::sync::mpsc::{channel, Sender};
@@ -42,9 +42,9 @@ pub fn try_all(
     if changes.is_empty() {
         return Ok(());
     }
-    let rooms = rooms(repo, made, options)?;
-    let said = repo.root.join("target/wrong/said").join(&made.name);
+    let said = said_folder(repo, made);
     fs::create_dir_all(&said).map_err(|e| e.to_string())?;
+    let rooms = rooms(repo, made, options)?;
     let next = AtomicUsize::new(0);
     let (done, results) = channel();
     thread::scope(|scope| {
@@ -64,6 +64,23 @@ pub fn try_all(
         }
         Ok(())
     })
+}
+
+/// What each check said, in a file named by the change's number.
+fn said_folder(repo: &Repository, made: &Crate) -> PathBuf {
+    repo.root.join("target/wrong/said").join(&made.name)
+}
+
+/// Judges what the checks of an earlier run said, of those changes that it tried.
+pub fn judge_again(repo: &Repository, made: &Crate, changes: &[Change], report: &mut Report) {
+    for change in changes {
+        let file = said_folder(repo, made).join(change.number.to_string());
+        if let Ok(said) = fs::read_to_string(file) {
+            let status = if said.contains(PROVED) { Some(0) } else { Some(1) };
+            let (verdict, error) = judge(&Outcome { status, said, seconds: 0.0 });
+            report.add(change, Tried { verdict, error, seconds: 0.0 });
+        }
+    }
 }
 
 /// One room for each job. The unchanged crate is checked in the first, and must be proved.

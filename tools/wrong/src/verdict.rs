@@ -25,21 +25,167 @@ impl fmt::Display for Verdict {
     }
 }
 
+/// Words of errors that say that a fact was looked for and not found.
+const FACT: [&str; 5] = [
+    "`search`: no proof of",
+    // the same in a function that has no proof file
+    "`search` does not close",
+    "`omega`: ",
+    "`simp` has no last argument, so what it leaves must be a path",
+    // two sides of an equation, compared late
+    "does not hold (this comparison",
+];
+
+/// Words of errors that say that code and proof no longer fit each other, whatever is true of the code.
+const SHAPE: [&str; 4] = [
+    // the code itself is refused before any proof: a type, a literal out of range
+    "error[",
+    // the proof names a branch, a call or a loop of the code that is not there
+    "has no field",
+    // the proof answers a need that the code no longer has
+    "that can be named from here",
+    // a form of code for which Rattle makes no part of the proof
+    "the borrow checker does not cover",
+];
+
+/// What a check says at its end where the crate is proved.
+pub const PROVED: &str = "logic=proved";
+
+/// What follows from another error, and is no reason by itself.
+const CONSEQUENCE: &str = "was not admitted";
+
 /// The verdict, and the first error.
 pub fn judge(outcome: &Outcome) -> (Verdict, String) {
     let first = first_error(&outcome.said);
     match outcome.status {
         None => (Verdict::Unclear, "no answer within the time limit".to_string()),
-        Some(0) => (Verdict::Accepted, String::new()),
+        Some(0) if outcome.said.contains(PROVED) => (Verdict::Accepted, String::new()),
         Some(_) => (of_error(&first), first),
     }
 }
 
-fn first_error(said: &str) -> String {
-    let found = said.lines().find(|line| line.contains("error:") || line.contains("no proof: "));
-    found.or(said.lines().next()).unwrap_or_default().to_string()
+fn of_error(error: &str) -> Verdict {
+    let says = |words: &[&str]| words.iter().any(|word| error.contains(word));
+    if says(&FACT) {
+        Verdict::Fact
+    } else if says(&SHAPE) {
+        Verdict::Shape
+    } else {
+        of_types(error).unwrap_or(Verdict::Unclear)
+    }
 }
 
-fn of_error(_error: &str) -> Verdict {
-    Verdict::Unclear
+/// Where a proof has one type and another is asked for: mostly two equations or inequalities, one of which is of no use for the other.
+/// It is the shape where one type is a need or a place in the code, or where one is the denial of what the other says: a proof then
+/// answers another need, or takes a branch for the other one.
+fn of_types(error: &str) -> Option<Verdict> {
+    let expected = quoted_after(error, "expected type `")?;
+    let found = quoted_after(error, "but this has type `")?;
+    let of_code = |kind: &str| {
+        let head = kind.split(' ').next().unwrap_or_default();
+        head.starts_with("tie.") || head.contains(".Tie.") || head.contains(".Lts.")
+    };
+    let denies = |kind: &str| kind.ends_with("→ Prim.⊥");
+    let shape = of_code(expected) || of_code(found) || denies(expected) != denies(found);
+    Some(if shape { Verdict::Shape } else { Verdict::Fact })
+}
+
+fn quoted_after<'a>(text: &'a str, words: &str) -> Option<&'a str> {
+    let start = text.find(words)? + words.len();
+    text[start..].split('`').next()
+}
+
+/// The first error that follows from no other, with its further lines, which are indented. A function that has no file of its own is
+/// reported after all errors.
+fn first_error(said: &str) -> String {
+    let lines: Vec<&str> = said.lines().collect();
+    let position = |test: &dyn Fn(&str) -> bool| lines.iter().position(|line| test(line));
+    let first = position(&|line| is_error(line) && !line.contains(CONSEQUENCE))
+        .or_else(|| position(&|line| line.contains(": no proof: expected")))
+        .or_else(|| position(&is_error));
+    let Some(first) = first else { return lines.first().copied().unwrap_or_default().to_string() };
+    let further = lines[first + 1..].iter().take_while(|line| line.starts_with(' '));
+    let words =
+        lines[first].split_whitespace().chain(further.flat_map(|line| line.split_whitespace()));
+    words.collect::<Vec<_>>().join(" ")
+}
+
+fn is_error(line: &str) -> bool {
+    line.contains(": error: ") || line.contains(": error[")
+}
+
+#[cfg(test)]
+mod tests {
+    use super::*;
+
+    fn judged(status: i32, said: &str) -> (Verdict, String) {
+        judge(&Outcome { status: Some(status), said: said.to_string(), seconds: 1.0 })
+    }
+
+    #[test]
+    fn a_crate_that_is_proved_is_accepted() {
+        let said =
+            "fn road::inner::offer: proved\nlogic=proved functions=10 native=nat,char,string\n";
+        assert_eq!(judged(0, said).0, Verdict::Accepted);
+        assert_eq!(judged(2, "rt: the kit has no library oi").0, Verdict::Unclear);
+        let stopped = judge(&Outcome { status: None, said: said.to_string(), seconds: 600.0 });
+        assert_eq!(stopped.0, Verdict::Unclear);
+    }
+
+    #[test]
+    fn a_fact_that_is_not_found_is_a_fact() {
+        for error in [
+            "proofs/inner/sending/Proof.antt:9:105: error: `sending-spec`: `search`: no proof of `Reads.Post (Prim.tt {0})`\n  was found.",
+            "proofs/inner/merge/Proof.antt:21:81: error: `returns-2`: `omega`: the goal does not follow from what it read.",
+            "proofs/inner/gives/Proof.antt:10:13: error: `returns`: give a proof of that as the last argument, `simp L t`\n  `simp` has no last argument, so what it leaves must be a path whose two ends are equal",
+            "proofs/Rates.antt:40:54: error: `reaches-facts`: `reaches junction` ≟ `leb a b && leb c d`\n  does not hold (this comparison, made at this position, had to wait",
+            "fn lists::inner::words::node_word: no proof: expected `node-word-spec` in ./proofs/inner/words/node_word/Proof.antt; `search` does not close `returns`",
+        ] {
+            assert_eq!(judged(1, &format!("fn a: proved\n{error}\nlogic=not-proved\n")).0, Verdict::Fact, "{error}");
+        }
+    }
+
+    #[test]
+    fn code_and_proof_that_do_not_fit_are_the_shape() {
+        for error in [
+            "src/inner.rt:72:24: error[mismatched-types]: expected `Flows`, found `Units`",
+            "proofs/inner/held_limit/Proof.antt:17:115: error: `returns`: record `held_limit.Lts.After-struct-known2`\n  has no field `if1`",
+            "proofs/inner/held_limit/Proof.antt:20:12: error: `cast-t10`: `tie.Need-cast-t10`: module `held_limit.Tie` has no `Need-cast-t10` that can be named from here",
+        ] {
+            assert_eq!(judged(1, error).0, Verdict::Shape, "{error}");
+        }
+    }
+
+    #[test]
+    fn types_that_differ_are_told_apart() {
+        let judged = |expected: &str, found: &str| {
+            let types = format!("  expected type `{expected}`\n  but this has type `{found}`");
+            judged(
+                1,
+                &format!(
+                    "proofs/Tests.antt:32:33: error: `within-holds`: the two types differ\n{types}"
+                ),
+            )
+            .0
+        };
+        assert_eq!(
+            judged("leb low x && leb x high ≡ true", "within low high x ≡ true"),
+            Verdict::Fact
+        );
+        assert_eq!(judged("_≡_ {A = ℕ} (?10 c) (?11 c)", "x ≡ 0 → Prim.⊥"), Verdict::Shape);
+        assert_eq!(judged("tie.Need-returns-2", "x ≡ 0"), Verdict::Shape);
+        assert_eq!(judged("fresh.Lts.After-if1 c", "fresh.Lts.Start c"), Verdict::Shape);
+    }
+
+    #[test]
+    fn what_follows_from_another_error_is_passed_over() {
+        let follows = "proofs/f/Proof.antt:12:19: error: `f-spec`: `close` was not admitted (it has holes), so this cannot be checked";
+        let cause = "proofs/g/Proof.antt:9:1: error: `g-spec`: `omega`: the goal does not follow\n    from what it read";
+        let (verdict, error) = judged(1, &format!("{follows}\n{cause}\n"));
+        assert_eq!(verdict, Verdict::Fact);
+        assert!(
+            error.starts_with("proofs/g/Proof.antt") && error.ends_with("follow from what it read")
+        );
+        assert_eq!(judged(1, follows).0, Verdict::Unclear);
+    }
 }
