@@ -5,6 +5,7 @@ mod comparisons;
 mod conjuncts;
 mod definitions;
 mod numbers;
+mod requires;
 
 use crate::code::Code;
 use crate::functions::functions_in;
@@ -20,10 +21,17 @@ pub enum Kind {
     Directions,
     Arguments,
     Conjuncts,
+    Requires,
 }
 
-pub const KINDS: [Kind; 5] =
-    [Kind::Numbers, Kind::Comparisons, Kind::Directions, Kind::Arguments, Kind::Conjuncts];
+pub const KINDS: [Kind; 6] = [
+    Kind::Numbers,
+    Kind::Comparisons,
+    Kind::Directions,
+    Kind::Arguments,
+    Kind::Conjuncts,
+    Kind::Requires,
+];
 
 impl fmt::Display for Kind {
     fn fmt(&self, f: &mut fmt::Formatter) -> fmt::Result {
@@ -33,6 +41,7 @@ impl fmt::Display for Kind {
             Kind::Directions => "directions",
             Kind::Arguments => "arguments",
             Kind::Conjuncts => "conjuncts",
+            Kind::Requires => "requires",
         })
     }
 }
@@ -141,6 +150,7 @@ fn in_code(made: &Crate, file: &str, text: &str, known: &Signatures) -> Vec<Foun
                 Kind::Directions => comparisons::direction_edits(&code, &function.body),
                 Kind::Arguments => arguments::edits(&code, &function.body, &scope, known),
                 Kind::Conjuncts => conjuncts::body_edits(&code, &function.body),
+                Kind::Requires => requires::edits(&code, &function.requires),
             };
             found.extend(edits.into_iter().map(|edit| (kind, function.name.clone(), edit)));
         }
@@ -192,7 +202,7 @@ pub mod tests {
         assert_eq!(dropped.label(), format!("sample:{}", all.len()));
         assert_eq!(
             (dropped.old.as_str(), dropped.new.as_str()),
-            ("if g( 1 < 2 ) { return 3; } 4", "4")
+            ("if g( 1 < 2 ) { return 3; }", "")
         );
         assert_eq!(all[0].new, "2 < 2");
     }

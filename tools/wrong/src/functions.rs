@@ -1,4 +1,4 @@
-//! The functions of a file: name, types of the parameters, and the tokens of the body, past the contract.
+//! The functions of a file: name, types of the parameters, what the contract requires, and the tokens of the body.
 
 use crate::code::{Code, Form};
 use std::ops::Range;
@@ -8,6 +8,8 @@ pub struct Function {
     pub name: String,
     /// The type of each parameter, its tokens with a space between.
     pub parameters: Vec<String>,
+    /// The tokens of each `requires`, from that word to its closing brace.
+    pub requires: Vec<Range<usize>>,
     /// The tokens between the braces of the body.
     pub body: Range<usize>,
 }
@@ -23,8 +25,8 @@ fn function_at(code: &Code, at: usize) -> Option<Function> {
     let open = code.find(at + 2, code.tokens.len(), |word| word == "(");
     let close = code.pair(open)?;
     let parameters = code.parts(open + 1, close).iter().map(|part| type_of(code, *part)).collect();
-    let body = body_after(code, close + 1)?;
-    Some(Function { name: code.word(at + 1).to_string(), parameters, body })
+    let (requires, body) = contract_and_body(code, close + 1)?;
+    Some(Function { name: code.word(at + 1).to_string(), parameters, requires, body })
 }
 
 /// What stands after the colon of a parameter; `self` has none.
@@ -35,17 +37,21 @@ fn type_of(code: &Code, (first, end): (usize, usize)) -> String {
 }
 
 /// The first brace that opens no part of the contract opens the body.
-fn body_after(code: &Code, first: usize) -> Option<Range<usize>> {
+fn contract_and_body(code: &Code, first: usize) -> Option<(Vec<Range<usize>>, Range<usize>)> {
+    let mut requires = Vec::new();
     let mut at = first;
     while at < code.tokens.len() {
+        let start = at;
         match code.word(at) {
             "requires" | "ensures" => {
-                let open = code.find(at, code.tokens.len(), |word| word == "{");
-                at = code.after(open);
+                at = code.after(code.find(at, code.tokens.len(), |word| word == "{"));
             }
-            "{" => return code.pair(at).map(|close| at + 1..close),
+            "{" => return code.pair(at).map(|close| (requires, at + 1..close)),
             ";" => return None,
             _ => at = code.after(at),
+        }
+        if code.word(start) == "requires" {
+            requires.push(start..at);
         }
     }
     None
@@ -74,6 +80,9 @@ fn main() { put(a, 1, 2); }
         let names: Vec<&str> = found.iter().map(|function| function.name.as_str()).collect();
         assert_eq!(names, ["put", "main"]);
         assert_eq!(found[0].parameters, ["& 'a mut [ u8 ; 4 ]", "usize", "usize"]);
+        let required = &found[0].requires[..];
+        assert_eq!(required.len(), 1);
+        assert!(code.between(required[0].start, required[0].end).starts_with("requires { ⌜ j * 4"));
         assert_eq!(code.between(found[0].body.start, found[0].body.end), "j + k");
         assert_eq!(code.between(found[1].body.start, found[1].body.end), "put(a, 1, 2);");
     }

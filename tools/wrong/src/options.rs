@@ -8,8 +8,8 @@ wrong: make wrong programs of crates, one change at a time, and see which of the
 
   cargo run --release --offline --manifest-path tools/wrong/Cargo.toml -- [OPTIONS] CRATE..
 
-  --kinds A,B       kinds of change, of numbers, comparisons, directions, arguments, conjuncts
-                    (default: all but directions)
+  --kinds A,B       kinds of change, of numbers, comparisons, directions, arguments, conjuncts, requires
+                    (default: numbers,comparisons,arguments,conjuncts)
   --function NAME   only in the function or definition NAME
   --file PATH       only in files whose path ends with PATH, as src/inner/words.rt
   --list            print the changes and check nothing
@@ -30,6 +30,8 @@ kinds of change
                arguments with the same text, methods, constructors, and functions of the toolchain's libraries
   conjuncts    the last test dropped: the last operand of each chain of `&&` in definitions of specs/ and in functions' bodies, the
                last `if .. { return x; }` before the last statement of a function's body, and b in `if a { b } else { false }`
+  requires     the last factor of each `requires` dropped, or all of it where it has one: no wrong program, but where it is accepted
+               the contract asks for more than the function needs
 
 verdicts
   accepted           the crate is proved with the change, by a whole check
@@ -54,10 +56,9 @@ pub struct Options {
 
 impl Options {
     pub fn parse(words: &[String]) -> Result<Options, String> {
-        let kinds = KINDS.into_iter().filter(|kind| *kind != Kind::Directions).collect();
         let mut options = Options {
             crates: Vec::new(),
-            kinds,
+            kinds: vec![Kind::Numbers, Kind::Comparisons, Kind::Arguments, Kind::Conjuncts],
             function: None,
             file: None,
             list: false,

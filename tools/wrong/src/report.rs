@@ -22,7 +22,12 @@ pub struct Report {
 
 pub fn list(change: &Change) {
     println!("{}", place(change));
-    println!("    {} -> {}", change.old, change.new);
+    println!("{}", lines(change));
+}
+
+fn lines(change: &Change) -> String {
+    let new = if change.new.is_empty() { "(nothing)" } else { &change.new };
+    format!("    {} -> {new}", change.old)
 }
 
 fn place(change: &Change) -> String {
@@ -33,7 +38,7 @@ fn place(change: &Change) -> String {
 impl Report {
     pub fn add(&mut self, change: &Change, tried: Tried) {
         println!("{}: {} ({:.1} s)", place(change), tried.verdict, tried.seconds);
-        println!("    {} -> {}", change.old, change.new);
+        println!("{}", lines(change));
         if !tried.error.is_empty() {
             println!("    {}", tried.error.chars().take(CUT).collect::<String>());
         }

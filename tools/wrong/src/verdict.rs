@@ -26,26 +26,30 @@ impl fmt::Display for Verdict {
 }
 
 /// Words of errors that say that a fact was looked for and not found.
-const FACT: [&str; 5] = [
+const FACT: [&str; 6] = [
     "`search`: no proof of",
     // the same in a function that has no proof file
     "`search` does not close",
     "`omega`: ",
+    "`omega` stopped at a bound of its own",
     "`simp` has no last argument, so what it leaves must be a path",
     // two sides of an equation, compared late
     "does not hold (this comparison",
 ];
 
 /// Words of errors that say that code and proof no longer fit each other, whatever is true of the code.
-const SHAPE: [&str; 4] = [
+const SHAPE: [&str; 6] = [
     // the code itself is refused before any proof: a type, a literal out of range
     "error[",
     // the proof names a branch, a call or a loop of the code that is not there
     "has no field",
     // the proof answers a need that the code no longer has
     "that can be named from here",
-    // a form of code for which Rattle makes no part of the proof
-    "the borrow checker does not cover",
+    // the proof gives or takes several facts where the contract now has one
+    "which is not a `×` type",
+    "projects from a `×` type or a record",
+    // a function without a proof file for which Rattle makes none, and names no fact that it lacks
+    ": no proof: expected",
 ];
 
 /// What a check says at its end where the crate is proved.
@@ -137,6 +141,7 @@ mod tests {
         for error in [
             "proofs/inner/sending/Proof.antt:9:105: error: `sending-spec`: `search`: no proof of `Reads.Post (Prim.tt {0})`\n  was found.",
             "proofs/inner/merge/Proof.antt:21:81: error: `returns-2`: `omega`: the goal does not follow from what it read.",
+            "proofs/inner/place/put_run/Proof.antt:19:5: error: `put-word-requires`: `omega` stopped at a bound of its own: eliminating one atom",
             "proofs/inner/gives/Proof.antt:10:13: error: `returns`: give a proof of that as the last argument, `simp L t`\n  `simp` has no last argument, so what it leaves must be a path whose two ends are equal",
             "proofs/Rates.antt:40:54: error: `reaches-facts`: `reaches junction` ≟ `leb a b && leb c d`\n  does not hold (this comparison, made at this position, had to wait",
             "fn lists::inner::words::node_word: no proof: expected `node-word-spec` in ./proofs/inner/words/node_word/Proof.antt; `search` does not close `returns`",
@@ -150,6 +155,8 @@ mod tests {
         for error in [
             "src/inner.rt:72:24: error[mismatched-types]: expected `Flows`, found `Units`",
             "proofs/inner/held_limit/Proof.antt:17:115: error: `returns`: record `held_limit.Lts.After-struct-known2`\n  has no field `if1`",
+            "proofs/inner/share/Proof.antt:15:96: error: `share-spec`: a tuple is checked against `Reads.Post`\n  which is not a `×` type",
+            "fn trial::say::put: no proof: expected `put-spec` in proofs/say/put/Proof.antt; the borrow checker does not cover this function yet",
             "proofs/inner/held_limit/Proof.antt:20:12: error: `cast-t10`: `tie.Need-cast-t10`: module `held_limit.Tie` has no `Need-cast-t10` that can be named from here",
         ] {
             assert_eq!(judged(1, error).0, Verdict::Shape, "{error}");

@@ -67,14 +67,13 @@ fn statement_end(code: &Code, start: usize, end: usize) -> usize {
 /// The statement before the last one, where it is an `if` that only returns.
 fn early_return(code: &Code, body: &Range<usize>) -> Option<Edit> {
     let all = statements(code, body);
-    let [.., (first, end), (last, _)] = all[..] else { return None };
+    let [.., (first, end), _] = all[..] else { return None };
     let open = code.pair(end - 1)?;
     let alone = code.find(first, end, |word| word == "else") == end;
     if code.word(first) != "if" || code.word(open + 1) != "return" || !alone {
         return None;
     }
-    let (start, end) = (code.tokens[first].start, code.tokens[last].start);
-    Some(Edit { start, end, new: String::new() })
+    Some(Edit::of_tokens(code, first, end, String::new()))
 }
 
 /// In `if a { b } else { false }` the test b made true.
@@ -99,7 +98,7 @@ mod tests {
     #[test]
     fn the_last_early_return_is_dropped() {
         let text = "fn f(x: u32) -> u32 {\n    if x > 1 {\n        return 3;\n    }\n    if let A { n: _ } = x {\n        return 4;\n    }\n    g(0)\n}";
-        assert_eq!(changed(Kind::Conjuncts, text), ["g(0)"]);
+        assert_eq!(changed(Kind::Conjuncts, text), [""]);
         let other = "fn f(x: u32) -> u32 {\n    if x > 1 {\n        y = 3;\n    }\n    0\n}";
         assert!(changed(Kind::Conjuncts, other).is_empty());
     }
