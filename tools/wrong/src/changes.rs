@@ -100,12 +100,19 @@ impl Change {
             kind,
             file: file.to_string(),
             within,
-            line: 1 + text[..edit.start].matches('\n').count(),
+            line: line_of(text, &edit),
             old: lines_at(text, edit.start, edit.end),
             new: lines_at(&changed, edit.start, edit.start + edit.new.len()),
             edit,
         }
     }
+}
+
+/// The line of the first sign that is replaced.
+fn line_of(text: &str, edit: &Edit) -> usize {
+    let replaced = &text[edit.start..edit.end];
+    let blank = replaced.len() - replaced.trim_start().len();
+    1 + text[..edit.start + blank].matches('\n').count()
 }
 
 /// The lines from byte `start` to byte `end`, on one line.
@@ -191,6 +198,14 @@ pub mod tests {
     pub fn changed(kind: Kind, text: &str) -> Vec<String> {
         let all = changes_of(&crate_of("src/lib.rt", text), &Signatures::default());
         all.into_iter().filter(|change| change.kind == kind).map(|change| change.new).collect()
+    }
+
+    #[test]
+    fn a_dropped_operand_stands_where_its_sign_does() {
+        let text = "f x =\n    a\n    && b\n";
+        let all = changes_of(&crate_of("specs/Tests.antt", text), &Signatures::default());
+        assert_eq!((all.len(), all[0].line, all[0].within.as_str()), (1, 3, "f"));
+        assert_eq!((all[0].old.as_str(), all[0].new.as_str()), ("a && b", "a"));
     }
 
     #[test]
