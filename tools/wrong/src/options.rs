@@ -36,7 +36,7 @@ kinds of change
 verdicts
   accepted           the crate is proved with the change, by a whole check
   refused at a fact  the first error says that a fact was not shown
-  refused by shape   the first error says that the code or the proof no longer has the form that the other asks for
+  refused by shape   the first error, or another in its file, says that the code or the proof no longer has the form that the other asks for
   unclear            the first error is of neither known form, or the time ran out
 ";
 

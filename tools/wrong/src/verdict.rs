@@ -58,14 +58,24 @@ pub const PROVED: &str = "logic=proved";
 /// What follows from another error, and is no reason by itself.
 const CONSEQUENCE: &str = "was not admitted";
 
-/// The verdict, and the first error.
+/// The verdict, and the error that it goes by.
 pub fn judge(outcome: &Outcome) -> (Verdict, String) {
-    let first = first_error(&outcome.said);
     match outcome.status {
         None => (Verdict::Unclear, "no answer within the time limit".to_string()),
         Some(0) if outcome.said.contains(PROVED) => (Verdict::Accepted, String::new()),
-        Some(_) => (of_error(&first), first),
+        Some(_) => of_errors(errors_in(&outcome.said)),
     }
+}
+
+/// The first error decides, unless another of the same file is one of shape: where a need is gone, the needs after it have the names of
+/// others, and a proof looks for the wrong facts.
+fn of_errors(mut errors: Vec<String>) -> (Verdict, String) {
+    let file = |error: &str| error.split(':').next().unwrap_or_default().to_string();
+    let own = file(&errors[0]);
+    let of_shape = |error: &String| file(error) == own && of_error(error) == Verdict::Shape;
+    let decisive = errors.iter().position(of_shape).unwrap_or(0);
+    let error = errors.swap_remove(decisive);
+    (of_error(&error), error)
 }
 
 fn of_error(error: &str) -> Verdict {
@@ -99,19 +109,28 @@ fn quoted_after<'a>(text: &'a str, words: &str) -> Option<&'a str> {
     text[start..].split('`').next()
 }
 
-/// The first error that follows from no other, with its further lines, which are indented. A function that has no file of its own is
-/// reported after all errors.
-fn first_error(said: &str) -> String {
+/// The errors that follow from no other, each with its further lines, which are indented. Where there is none: the functions for which
+/// a proof file is wanted, which are reported after all errors; else all that was said.
+fn errors_in(said: &str) -> Vec<String> {
+    let cause = |line: &str| is_error(line) && !line.contains(CONSEQUENCE);
+    let wanted = |line: &str| line.contains(": no proof: expected");
+    let all = [paragraphs(said, cause), paragraphs(said, wanted), paragraphs(said, is_error)];
+    let found = all.into_iter().find(|errors| !errors.is_empty());
+    found.unwrap_or_else(|| vec![joined(said.lines())])
+}
+
+fn paragraphs(said: &str, starts: impl Fn(&str) -> bool) -> Vec<String> {
     let lines: Vec<&str> = said.lines().collect();
-    let position = |test: &dyn Fn(&str) -> bool| lines.iter().position(|line| test(line));
-    let first = position(&|line| is_error(line) && !line.contains(CONSEQUENCE))
-        .or_else(|| position(&|line| line.contains(": no proof: expected")))
-        .or_else(|| position(&is_error));
-    let Some(first) = first else { return lines.first().copied().unwrap_or_default().to_string() };
-    let further = lines[first + 1..].iter().take_while(|line| line.starts_with(' '));
-    let words =
-        lines[first].split_whitespace().chain(further.flat_map(|line| line.split_whitespace()));
-    words.collect::<Vec<_>>().join(" ")
+    let firsts = (0..lines.len()).filter(|at| starts(lines[*at]));
+    let with_further = |at: usize| {
+        let further = lines[at + 1..].iter().take_while(|line| line.starts_with(' '));
+        joined(lines[at..=at].iter().chain(further).copied())
+    };
+    firsts.map(with_further).collect()
+}
+
+fn joined<'a>(lines: impl Iterator<Item = &'a str>) -> String {
+    lines.flat_map(str::split_whitespace).collect::<Vec<_>>().join(" ")
 }
 
 fn is_error(line: &str) -> bool {
@@ -194,5 +213,18 @@ mod tests {
             error.starts_with("proofs/g/Proof.antt") && error.ends_with("follow from what it read")
         );
         assert_eq!(judged(1, follows).0, Verdict::Unclear);
+    }
+
+    #[test]
+    fn a_need_that_is_gone_from_the_same_file_is_the_shape() {
+        let fact =
+            "proofs/f/Proof.antt:14:15: error: `returns-3`: `search`: no proof of `Reads.Post`";
+        let gone = |file: &str| {
+            format!("{file}:16:13: error: `returns-4`: module `f.Tie`\n  has no `Need-returns-4` that can be named from here")
+        };
+        let (verdict, error) = judged(1, &format!("{fact}\n{}", gone("proofs/f/Proof.antt")));
+        assert_eq!(verdict, Verdict::Shape);
+        assert!(error.contains("Need-returns-4"));
+        assert_eq!(judged(1, &format!("{fact}\n{}", gone("proofs/g/Proof.antt"))).0, Verdict::Fact);
     }
 }
