@@ -82,8 +82,8 @@ fn signatures(repo: &Repository) -> Signatures {
 fn select(changes: Vec<Change>, options: &Options) -> Vec<Change> {
     let wanted = |change: &Change| {
         options.kinds.contains(&change.kind)
-            && options.function.as_ref().map_or(true, |name| *name == change.within)
-            && options.file.as_ref().map_or(true, |path| change.path().ends_with(path.as_str()))
+            && options.function.as_ref().is_none_or(|name| *name == change.within)
+            && options.file.as_ref().is_none_or(|path| change.path().ends_with(path.as_str()))
     };
     let left: Vec<Change> = changes.into_iter().filter(wanted).collect();
     let most = options.sample.unwrap_or(left.len()).min(left.len());
