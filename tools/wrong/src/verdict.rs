@@ -55,8 +55,8 @@ const SHAPE: [&str; 6] = [
 /// What a check says at its end where the crate is proved.
 pub const PROVED: &str = "logic=proved";
 
-/// What follows from another error, and is no reason by itself.
-const CONSEQUENCE: &str = "was not admitted";
+/// What follows from another error, and is no reason by itself: a law that is cited, a function that is called.
+const CONSEQUENCE: [&str; 3] = ["was not admitted", "which is not proved", "which are not proved"];
 
 /// The verdict, and the error that it goes by.
 pub fn judge(outcome: &Outcome) -> (Verdict, String) {
@@ -70,12 +70,17 @@ pub fn judge(outcome: &Outcome) -> (Verdict, String) {
 /// The first error decides, unless another of the same file is one of shape: where a need is gone, the needs after it have the names of
 /// others, and a proof looks for the wrong facts.
 fn of_errors(mut errors: Vec<String>) -> (Verdict, String) {
-    let file = |error: &str| error.split(':').next().unwrap_or_default().to_string();
-    let own = file(&errors[0]);
-    let of_shape = |error: &String| file(error) == own && of_error(error) == Verdict::Shape;
+    let own = file_of(&errors[0]).to_string();
+    let of_shape = |error: &String| file_of(error) == own && of_error(error) == Verdict::Shape;
     let decisive = errors.iter().position(of_shape).unwrap_or(0);
     let error = errors.swap_remove(decisive);
     (of_error(&error), error)
+}
+
+/// The proof file of an error, without its ending, or the function that wants one.
+fn file_of(error: &str) -> &str {
+    let place = error.split(": ").next().unwrap_or_default();
+    place.split(".antt:").next().unwrap_or_default()
 }
 
 fn of_error(error: &str) -> Verdict {
@@ -112,8 +117,9 @@ fn quoted_after<'a>(text: &'a str, words: &str) -> Option<&'a str> {
 /// The errors that follow from no other, each with its further lines, which are indented. Where there is none: the functions for which
 /// a proof file is wanted, which are reported after all errors; else all that was said.
 fn errors_in(said: &str) -> Vec<String> {
-    let cause = |line: &str| is_error(line) && !line.contains(CONSEQUENCE);
-    let wanted = |line: &str| line.contains(": no proof: expected");
+    let follows = |line: &str| CONSEQUENCE.iter().any(|words| line.contains(words));
+    let cause = |line: &str| is_error(line) && !follows(line);
+    let wanted = |line: &str| line.contains(": no proof: expected") && !follows(line);
     let all = [paragraphs(said, cause), paragraphs(said, wanted), paragraphs(said, is_error)];
     let found = all.into_iter().find(|errors| !errors.is_empty());
     found.unwrap_or_else(|| vec![joined(said.lines())])
@@ -213,6 +219,14 @@ mod tests {
             error.starts_with("proofs/g/Proof.antt") && error.ends_with("follow from what it read")
         );
         assert_eq!(judged(1, follows).0, Verdict::Unclear);
+    }
+
+    #[test]
+    fn a_caller_of_what_is_not_proved_is_passed_over() {
+        let cause = "fn normal::inner::input::refused: no proof: expected `refused-spec` in proofs/inner/input/refused/Proof.antt; `search` does not close `returns`";
+        let caller = "fn normal::main: no proof: expected `main-spec` in proofs/main/Proof.antt; it calls `normal::inner::print`, which is not proved";
+        let (verdict, error) = judged(1, &format!("{caller}\n{cause}\n"));
+        assert_eq!((verdict, error.as_str()), (Verdict::Fact, cause));
     }
 
     #[test]
