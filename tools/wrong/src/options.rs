@@ -22,8 +22,9 @@ wrong: make wrong programs of crates, one change at a time, and see which of the
 
 kinds of change
   numbers      each number in a function's body one greater. Left out: numbers in contracts (a contract is what the change is held to),
-               in `ghost use` lines, comments, byte strings and byte characters (text), the fields of tuples (`x.0`), and lengths of
-               arrays, in a type or in `[v; n]`: another length is another type, or a room that is longer than need be
+               in `ghost use` lines, comments and constants outside functions, byte strings and byte characters (text), the fields
+               of tuples (`x.0`), and lengths of arrays, in a type or in `[v; n]`: another length is another type, or a room that is
+               longer than need be
   comparisons  each `<` in a function's body exchanged with `<=`, each `>` with `>=`, each `==` with `!=`, and the other way round
   directions   each `<` exchanged with `>`, each `<=` with `>=`, and the other way round
   arguments    two neighbouring arguments exchanged, at each call where the function's parameters there are of one type. Left out:
