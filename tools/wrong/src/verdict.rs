@@ -26,13 +26,15 @@ impl fmt::Display for Verdict {
 }
 
 /// Words of errors that say that a fact was looked for and not found.
-const FACT: [&str; 6] = [
+const FACT: [&str; 7] = [
     "`search`: no proof of",
     // the same in a function that has no proof file
     "`search` does not close",
     "`omega`: ",
     "`omega` stopped at a bound of its own",
     "`simp` has no last argument, so what it leaves must be a path",
+    // an equation of the proof that is of another value than the goal
+    "`rw`: no occurrence of the path's",
     // two sides of an equation, compared late
     "does not hold (this comparison",
 ];
@@ -167,6 +169,7 @@ mod tests {
             "proofs/inner/sending/Proof.antt:9:105: error: `sending-spec`: `search`: no proof of `Reads.Post (Prim.tt {0})`\n  was found.",
             "proofs/inner/merge/Proof.antt:21:81: error: `returns-2`: `omega`: the goal does not follow from what it read.",
             "proofs/inner/place/put_run/Proof.antt:19:5: error: `put-word-requires`: `omega` stopped at a bound of its own: eliminating one atom",
+            "proofs/inner/calls/told_fits/Proof.antt:9:13: error: `returns`: `rw`: no occurrence of the path's right endpoint in the goal",
             "proofs/inner/gives/Proof.antt:10:13: error: `returns`: give a proof of that as the last argument, `simp L t`\n  `simp` has no last argument, so what it leaves must be a path whose two ends are equal",
             "proofs/Rates.antt:40:54: error: `reaches-facts`: `reaches junction` ≟ `leb a b && leb c d`\n  does not hold (this comparison, made at this position, had to wait",
             "fn lists::inner::words::node_word: no proof: expected `node-word-spec` in ./proofs/inner/words/node_word/Proof.antt; `search` does not close `returns`",
