@@ -1,131 +1,136 @@
-// A case is a line of text: what is said, a colon, and what is told, in parts with a space or an equals sign before each.
-// A proof pays for each statement and each local and not for the length of a text, so cases in text are quick to prove.
+// Lines of text and what they tell: numbers in turn, ` 17`, and changes of a list by its letter: ` c17=0` makes word 17 of list c 0.
 use crate::content;
 
-// Where a line begins.
-fn start(text: &[u8], number: usize) -> usize {
-    let mut at = 0;
-    let mut left = number;
+// Stands for any byte in what is looked for.
+pub const ANY: u8 = 0;
+
+// A word of a list, and what it becomes.
+pub struct NewWord {
+    pub at: usize,
+    pub to: u32,
+}
+
+pub fn is_pair(text: &[u8], at: usize, byte: u8, after: u8) -> bool {
+    if content::byte(text, at) == byte {
+        if after == ANY {
+            return true;
+        }
+        return content::byte(content::bytes_from(text, at), 1) == after;
+    }
+    false
+}
+
+// Where a byte first stands with another one after it, or the length where there is no such place.
+pub fn find(text: &[u8], byte: u8, after: u8) -> usize {
     for i in 0..text.len() {
-        if 0 < left {
-            at = i + 1;
-            left = left_after(left, text[i]);
+        if is_pair(text, i, byte, after) {
+            return i;
         }
     }
-    at
+    text.len()
 }
 
-fn left_after(left: usize, byte: u8) -> usize {
-    if byte == b'\n' {
-        if 0 < left {
-            return left - 1;
-        }
-    }
-    left
+// The first line, without its line feed.
+pub fn first(text: &[u8]) -> &[u8] {
+    content::bytes(text, find(text, b'\n', ANY))
 }
 
-// How many bytes come before the first of a kind, or all where there is none.
-fn before(text: &[u8], byte: u8) -> usize {
-    let mut at = text.len();
-    for i in 0..text.len() {
-        if text[i] == byte {
-            at = content::least(at, i);
-        }
-    }
-    at
+// The rest of the text from the first line, but for the very first, that begins with a byte.
+pub fn named(text: &[u8], first: u8) -> &[u8] {
+    content::bytes_from(content::bytes_from(text, find(text, b'\n', first)), 1)
 }
 
-// A line of a text, by its number from 0.
-pub fn of(text: &[u8], number: usize) -> &[u8] {
-    let rest = content::bytes_from(text, start(text, number));
-    content::bytes(rest, before(rest, b'\n'))
+// Where what is told begins: a colon and a space come before it, and none are in a line that tells nothing.
+pub fn told_at(line: &[u8]) -> usize {
+    find(line, b':', b' ')
 }
 
-// What is said, without the colon.
-pub fn said(line: &[u8]) -> &[u8] {
-    content::bytes(line, before(line, b':'))
-}
-
-// The colon and what is told after it.
-pub fn told(line: &[u8]) -> &[u8] {
-    content::bytes_from(line, before(line, b':'))
-}
-
-fn part_after(part: u32, byte: u8) -> u32 {
+fn is_digit(byte: u8) -> bool {
     match byte {
-        b' ' | b'=' => std::num::wrapping_add_u32(part, 1),
-        _ => part,
+        b'0'..=b'9' => true,
+        _ => false,
     }
 }
 
-fn with_digit(number: u32, byte: u8) -> u32 {
-    match byte {
-        b'0'..=b'9' => ((10 * (number as u64) + (byte as u64) - 48) % 4294967296) as u32,
+fn with_digit(number: u32, digit: u8) -> u32 {
+    match digit {
+        b'0'..=b'9' => ((10 * (number as u64) + (digit as u64) - 48) % 4294967296) as u32,
         _ => number,
     }
 }
 
-// The number in a part, 0 where there is none.
-pub fn number(told: &[u8], of: u32) -> u32 {
-    let mut part = 0;
+// The number that a text begins with, 0 where there is none.
+fn number(text: &[u8]) -> u32 {
     let mut found = 0;
-    for i in 0..told.len() {
-        part = part_after(part, told[i]);
-        if part == of {
-            found = with_digit(found, told[i]);
+    for i in 0..text.len() {
+        if !is_digit(text[i]) {
+            return found;
         }
+        found = with_digit(found, text[i]);
     }
     found
 }
 
-pub fn length(told: &[u8], of: u32) -> usize {
-    number(told, of) as usize
+// The number one byte further on.
+fn number_after(text: &[u8], at: usize) -> u32 {
+    number(content::bytes_from(content::bytes_from(text, at), 1))
 }
 
-fn first_letter(letter: u8, byte: u8) -> u8 {
-    if letter == 0 {
-        if b'a' <= byte {
-            return byte;
-        }
+// Whether a letter stands at a place with a digit after it.
+fn tells(told: &[u8], letter: u8, at: usize) -> bool {
+    if content::byte(told, at) == letter {
+        return is_digit(content::byte(content::bytes_from(told, at), 1));
     }
-    letter
+    false
 }
 
-// The first letter of a part, 0 where there is none.
-pub fn letter(told: &[u8], of: u32) -> u8 {
-    let mut part = 0;
-    let mut found = 0;
+// What is told at a place of the list with a letter, and of its next word by a space. No list has the word that is named where nothing is.
+pub fn change_at(told: &[u8], letter: u8, at: usize, next: usize) -> NewWord {
+    if !tells(told, letter, at) {
+        return NewWord {
+            at: 4294967295,
+            to: 0,
+        };
+    }
+    let number = number_after(told, at);
+    if letter == b' ' {
+        return NewWord {
+            at: next,
+            to: number,
+        };
+    }
+    let rest = content::bytes_from(told, at);
+    NewWord {
+        at: number as usize,
+        to: number_after(rest, find(rest, b'=', ANY)),
+    }
+}
+
+// Makes the changes of the list with a letter; by a space, the numbers told become its words. Answers how many those are.
+pub fn change(list: &mut [u32], letter: u8, told: &[u8]) -> usize {
+    let mut next = 0;
     for i in 0..told.len() {
-        part = part_after(part, told[i]);
-        if part == of {
-            found = first_letter(found, told[i]);
-        }
+        let change = change_at(told, letter, i, next);
+        content::set(list, change.at, change.to);
+        next = content::one_more(change.at == next, next, told.len());
     }
-    found
+    next
 }
 
-// A list becomes the numbers told.
-pub fn put(list: &mut [u32], told: &[u8]) {
-    let mut part = 1;
-    for i in 0..list.len() {
-        content::set(list, i, number(told, part));
-        part = std::num::wrapping_add_u32(part, 1);
-    }
+// A list becomes the numbers told, with those after a star again and again, or zeros after them. Answers how many come once.
+pub fn put(list: &mut [u32], told: &[u8]) -> usize {
+    let mut row = [0u32; 10];
+    let star = find(told, b'*', ANY);
+    let once = change(list, b' ', content::bytes(told, star));
+    let width = change(&mut row, b' ', content::bytes_from(told, star));
+    content::repeat(list, once, content::part(&row, width));
+    once
 }
 
-// Makes the change told in a part and the next one, if it is one of this list.
-fn change_word(list: &mut [u32], kind: u8, told: &[u8], part: u32) {
-    if letter(told, part) == kind {
-        let next = std::num::wrapping_add_u32(part, 1);
-        content::set(list, length(told, part), number(told, next));
-    }
-}
-
-// Makes the changes of one list, from part 2 on: c17=0 makes word 17 of the list with the letter c 0.
-pub fn change(list: &mut [u32], kind: u8, told: &[u8]) {
-    let mut part = 2;
-    for i in 0..told.len() {
-        change_word(list, kind, told, part);
-        part = std::num::wrapping_add_u32(part, 1);
-    }
+// A list becomes what the line that begins with its letter tells, with its changes there. Answers how many words come once.
+pub fn make(list: &mut [u32], letter: u8, section: &[u8]) -> usize {
+    let line = first(named(section, letter));
+    let once = put(list, line);
+    change(list, letter, line);
+    once
 }

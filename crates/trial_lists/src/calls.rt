@@ -55,5 +55,4 @@ pub fn all(
     checked_and_converted(corridor, demands, words, lent_plan);
     say::comma();
     normal(corridor, demands, plan, lent_record, lent_plan);
-    say::line_end();
 }

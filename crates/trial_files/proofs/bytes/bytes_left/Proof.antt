@@ -1,4 +1,4 @@
--- The loop ends: one byte less is left after each turn.
+-- The loop ends: one turn less is left after each.
 use borrow.Author.Needs.{needs}
 use Prim.Native.Nat.{_-_}
 use Rattle.trial_files.proofs.bytes.bytes_left.Statement.{statement}
@@ -17,7 +17,7 @@ bytes-left-spec =
     Inv-loop
     μ-loop
     (λ c. search needs)
-    (λ c κs. search needs)
+    (λ c. search needs)
     (λ c κs. search needs)
     (λ c. search needs)
     (λ c. search needs)

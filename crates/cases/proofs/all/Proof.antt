@@ -1,14 +1,14 @@
--- The loop ends: one case less is left after each turn.
+-- The loop ends: one turn less is left after each.
 use borrow.Author.Needs.{needs}
 use Prim.Native.Nat.{_-_}
-use Rattle.trial_files.proofs.run.all.Statement.{statement}
-use Rattle.trial_files.proofs.run.all.Tie as tie
+use Rattle.cases.proofs.all.Statement.{statement}
+use Rattle.cases.proofs.all.Tie as tie
 
 abbrev Inv-loop : tie.InvT-loop
-Inv-loop text number i₀ i = Unit
+Inv-loop text section₀ i₀ i-end section i = Unit
 
 abbrev μ-loop : tie.MeasureT-loop
-μ-loop text number i₀ i = number - i
+μ-loop text section₀ i₀ i-end section i = i-end - i
 
 pub all-spec : {M : Type 1} → statement M
 all-spec =
