@@ -4,11 +4,12 @@
 use libc::STDIN_FILENO;
 use trial::content;
 use trial::line;
+use trial::line::Sought;
 use trial::say;
 
 // Where the section of a line begins: at the last line feed before it that a number sign follows.
 fn section_after(text: &[u8], at: usize, section: usize) -> usize {
-    if line::is_pair(text, at, b'\n', b'#') {
+    if line::is_at(text, at, Sought::Pair(b'\n', b'#')) {
         return at;
     }
     section
@@ -22,13 +23,13 @@ fn call(section: &[u8], told: &[u8]) {
 }
 
 fn run(section: &[u8], of: &[u8]) {
-    let colon = line::told_at(of);
+    let colon = line::find(of, Sought::Pair(b':', b' '));
     say::text(content::bytes(of, colon));
     if colon < of.len() {
         say::text(b":");
         call(
             section,
-            content::bytes_from(content::bytes_from(of, colon), 2),
+            content::bytes_after(content::bytes_after(of, colon), 0),
         );
     }
     say::line_end();

@@ -67,6 +67,15 @@ pub fn bytes_from(file: &[u8], from: usize) -> &[u8] {
     &file[start..]
 }
 
+// The bytes after a place.
+pub fn bytes_after(file: &[u8], at: usize) -> &[u8] {
+    bytes_from(bytes_from(file, at), 1)
+}
+
+pub fn byte_after(file: &[u8], at: usize) -> u8 {
+    byte(bytes_after(file, at), 0)
+}
+
 pub fn lent_bytes(file: &mut [u8], length: usize) -> &mut [u8] {
     let end = least(length, file.len());
     &mut file[0..end]
@@ -101,11 +110,6 @@ pub fn repeat(list: &mut [u32], from: usize, row: &[u32]) {
     }
 }
 
-pub fn lend(list: &mut [u32]) {
-    let row = [LENT_WORD];
-    repeat(list, 0, &row);
-}
-
 pub fn one_more(found: bool, count: usize, most: usize) -> usize {
     if found {
         if count < most {
@@ -126,12 +130,12 @@ fn alike(list: &[u32], row: &[u32]) -> usize {
     count
 }
 
-pub fn say_left(left: usize, length: usize) {
-    if left == length {
+pub fn say_left(kept: bool, filled: bool) {
+    if kept {
         say::text(b" kept");
         return;
     }
-    if left == 0 {
+    if filled {
         say::text(b" filled");
         return;
     }
@@ -141,7 +145,8 @@ pub fn say_left(left: usize, length: usize) {
 // Says whether a lent list is as it was, or wholly filled.
 pub fn say_kept(list: &[u32]) {
     let row = [LENT_WORD];
-    say_left(alike(list, &row), list.len());
+    let left = alike(list, &row);
+    say_left(left == list.len(), left == 0);
 }
 
 // Says whether two lists have the same words.

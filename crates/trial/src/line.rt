@@ -1,8 +1,12 @@
 // Lines of text and what they tell: numbers in turn, ` 17`, and changes of a list by its letter: ` c17=0` makes word 17 of list c 0.
 use crate::content;
 
-// Stands for any byte in what is looked for.
-pub const ANY: u8 = 0;
+// What is looked for in a text: a byte, one with another after it, or any but one.
+pub enum Sought {
+    Byte(u8),
+    Pair(u8, u8),
+    Other(u8),
+}
 
 // A word of a list, and what it becomes.
 pub struct NewWord {
@@ -10,20 +14,19 @@ pub struct NewWord {
     pub to: u32,
 }
 
-pub fn is_pair(text: &[u8], at: usize, byte: u8, after: u8) -> bool {
-    if content::byte(text, at) == byte {
-        if after == ANY {
-            return true;
-        }
-        return content::byte(content::bytes_from(text, at), 1) == after;
+pub fn is_at(text: &[u8], at: usize, sought: Sought) -> bool {
+    let found = content::byte(text, at);
+    match sought {
+        Sought::Byte(byte) => found == byte,
+        Sought::Pair(byte, after) => found == byte && content::byte_after(text, at) == after,
+        Sought::Other(byte) => found != byte,
     }
-    false
 }
 
-// Where a byte first stands with another one after it, or the length where there is no such place.
-pub fn find(text: &[u8], byte: u8, after: u8) -> usize {
+// Where what is looked for first stands, or the length where it does not.
+pub fn find(text: &[u8], sought: Sought) -> usize {
     for i in 0..text.len() {
-        if is_pair(text, i, byte, after) {
+        if is_at(text, i, sought) {
             return i;
         }
     }
@@ -32,17 +35,12 @@ pub fn find(text: &[u8], byte: u8, after: u8) -> usize {
 
 // The first line, without its line feed.
 pub fn first(text: &[u8]) -> &[u8] {
-    content::bytes(text, find(text, b'\n', ANY))
+    content::bytes(text, find(text, Sought::Byte(b'\n')))
 }
 
-// The rest of the text from the first line, but for the very first, that begins with a byte.
-pub fn named(text: &[u8], first: u8) -> &[u8] {
-    content::bytes_from(content::bytes_from(text, find(text, b'\n', first)), 1)
-}
-
-// Where what is told begins: a colon and a space come before it, and none are in a line that tells nothing.
-pub fn told_at(line: &[u8]) -> usize {
-    find(line, b':', b' ')
+// The first line, but for the very first, that begins with a letter.
+fn named(text: &[u8], letter: u8) -> &[u8] {
+    first(content::bytes_after(text, find(text, Sought::Pair(b'\n', letter))))
 }
 
 fn is_digit(byte: u8) -> bool {
@@ -73,15 +71,12 @@ fn number(text: &[u8]) -> u32 {
 
 // The number one byte further on.
 fn number_after(text: &[u8], at: usize) -> u32 {
-    number(content::bytes_from(content::bytes_from(text, at), 1))
+    number(content::bytes_after(text, at))
 }
 
 // Whether a letter stands at a place with a digit after it.
 fn tells(told: &[u8], letter: u8, at: usize) -> bool {
-    if content::byte(told, at) == letter {
-        return is_digit(content::byte(content::bytes_from(told, at), 1));
-    }
-    false
+    content::byte(told, at) == letter && is_digit(content::byte_after(told, at))
 }
 
 // What is told at a place of the list with a letter, and of its next word by a space. No list has the word that is named where nothing is.
@@ -102,7 +97,7 @@ pub fn change_at(told: &[u8], letter: u8, at: usize, next: usize) -> NewWord {
     let rest = content::bytes_from(told, at);
     NewWord {
         at: number as usize,
-        to: number_after(rest, find(rest, b'=', ANY)),
+        to: number_after(rest, find(rest, Sought::Byte(b'='))),
     }
 }
 
@@ -120,7 +115,7 @@ pub fn change(list: &mut [u32], letter: u8, told: &[u8]) -> usize {
 // A list becomes the numbers told, with those after a star again and again, or zeros after them. Answers how many come once.
 pub fn put(list: &mut [u32], told: &[u8]) -> usize {
     let mut row = [0u32; 10];
-    let star = find(told, b'*', ANY);
+    let star = find(told, Sought::Byte(b'*'));
     let once = change(list, b' ', content::bytes(told, star));
     let width = change(&mut row, b' ', content::bytes_from(told, star));
     content::repeat(list, once, content::part(&row, width));
@@ -129,7 +124,7 @@ pub fn put(list: &mut [u32], told: &[u8]) -> usize {
 
 // A list becomes what the line that begins with its letter tells, with its changes there. Answers how many words come once.
 pub fn make(list: &mut [u32], letter: u8, section: &[u8]) -> usize {
-    let line = first(named(section, letter));
+    let line = named(section, letter);
     let once = put(list, line);
     change(list, letter, line);
     once

@@ -1,21 +1,17 @@
 // The bytes of a file: what a call left in them, and its words of four bytes.
 use trial::content;
 use trial::line;
+use trial::line::Sought;
 
 // What every byte of a lent file is before a call. No right answer of these runs holds it.
 pub const LENT_BYTE: u8 = 170;
 
-fn bytes_left(file: &[u8]) -> usize {
-    let mut count = 0;
-    for i in 0..file.len() {
-        count = content::one_more(file[i] == LENT_BYTE, count, file.len());
-    }
-    count
-}
-
 // Says whether a lent file is as it was, or wholly filled.
 pub fn say_kept(file: &[u8]) {
-    content::say_left(bytes_left(file), file.len());
+    content::say_left(
+        line::find(file, Sought::Other(LENT_BYTE)) == file.len(),
+        line::find(file, Sought::Byte(LENT_BYTE)) == file.len(),
+    );
 }
 
 // A word of a file, low byte first.

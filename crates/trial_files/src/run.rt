@@ -4,14 +4,12 @@ use crate::bytes;
 use crate::transfer;
 use trial::content;
 use trial::line;
+use trial::line::Sought;
 use trial::say;
 
 // The letter after the first space.
 fn name(told: &[u8]) -> u8 {
-    content::byte(
-        content::bytes_from(told, line::find(told, b' ', line::ANY)),
-        1,
-    )
+    content::byte_after(told, line::find(told, Sought::Byte(b' ')))
 }
 
 // The greatest lengths that a frame holds: words, file and the words read back each in a function of its own.
@@ -27,47 +25,40 @@ pub fn case(section: &[u8], told: &[u8]) {
 
 fn with_file(told: &[u8], numbers: &[u32], words: &[u32]) {
     let mut room = [bytes::LENT_BYTE; 65024];
-    with_lent(told, numbers, words, &mut room);
-}
-
-fn with_lent(told: &[u8], numbers: &[u32], words: &[u32], room: &mut [u8]) {
-    let mut lent = [0u32; 15862];
     call(
         told,
         content::between(numbers, 0, 5),
         content::between(numbers, 5, 10),
         words,
-        room,
-        &mut lent,
+        &mut room,
     );
 }
 
 // Write and read say one answer, both says both, then reads once more, and header says a block by its number, the sixth told.
-fn call(
-    told: &[u8],
-    writer: &[u32],
-    reader: &[u32],
-    words: &[u32],
-    room: &mut [u8],
-    lent: &mut [u32],
-) {
+fn call(told: &[u8], writer: &[u32], reader: &[u32], words: &[u32], room: &mut [u8]) {
     match content::byte(told, 0) {
         b'w' => transfer::written(writer, words, room),
         b'r' => {
             transfer::put(writer, words, room);
             bytes::damage(room, told);
-            transfer::was_read(reader, room, lent);
+            transfer::was_read(reader, room, words);
         }
         b't' => {
-            transfer::both_ways(writer, words, room, lent);
+            both_ways(writer, words, room);
             bytes::damage(room, told);
             say::text(b", then");
-            transfer::was_read(reader, room, lent);
+            transfer::was_read(reader, room, words);
         }
         b'h' => {
-            transfer::both_ways(writer, words, room, lent);
+            both_ways(writer, words, room);
             transfer::say_block(room, content::word(reader, 0));
         }
-        _ => transfer::both_ways(writer, words, room, lent),
+        _ => both_ways(writer, words, room),
     }
+}
+
+fn both_ways(five: &[u32], words: &[u32], room: &mut [u8]) {
+    transfer::written(five, words, room);
+    say::comma();
+    transfer::was_read(five, room, words);
 }

@@ -44,22 +44,17 @@ pub fn written(five: &[u32], words: &[u32], room: &mut [u8]) {
     bytes::say_kept(file);
 }
 
-// Says the reader's answer and whether the lent words were kept.
-pub fn was_read(five: &[u32], room: &[u8], lent: &mut [u32]) {
-    let words = content::lent_part(lent, content::length(five, 3));
-    content::lend(words);
-    let answer = read(five, content::bytes(room, content::length(five, 4)), words);
+// Says the reader's answer, whether the lent words were kept, and whether the words read are those written.
+pub fn was_read(five: &[u32], room: &[u8], words: &[u32]) {
+    let mut lent = [content::LENT_WORD; 15862];
+    let back = content::lent_part(&mut lent, content::length(five, 3));
+    let answer = read(five, content::bytes(room, content::length(five, 4)), back);
     say::text(b" read ");
     say::answer(answer);
-    content::say_kept(words);
-}
-
-// Writes the words, reads them back and compares.
-pub fn both_ways(five: &[u32], words: &[u32], room: &mut [u8], lent: &mut [u32]) {
-    written(five, words, room);
-    say::comma();
-    was_read(five, room, lent);
-    content::say_same(words, content::part(lent, content::length(five, 3)));
+    content::say_kept(back);
+    if let Answer::Accepted = answer {
+        content::say_same(words, back);
+    }
 }
 
 // Kind, number and check word of block 0 or 1.
