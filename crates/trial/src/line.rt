@@ -1,4 +1,5 @@
-// Lines of text and what they tell: numbers in turn, ` 17`, and changes of a list by its letter: ` c17=0` makes word 17 of list c 0.
+// Lines of text and what they tell: numbers after spaces, the words of a list in turn, and changes of a list by its letter, as c17=0,
+// which makes word 17 of the list c 0. A proof pays for each statement and not for what the program reads, so a case costs none.
 use crate::content;
 
 // What is looked for in a text: a byte, one with another after it, or any but one.
@@ -79,7 +80,8 @@ fn tells(told: &[u8], letter: u8, at: usize) -> bool {
     content::byte(told, at) == letter && is_digit(content::byte_after(told, at))
 }
 
-// What is told at a place of the list with a letter, and of its next word by a space. No list has the word that is named where nothing is.
+// What is told at a place for the list with a letter, or by a number after a space for its next word.
+// Where nothing is told, a word that no list has.
 pub fn change_at(told: &[u8], letter: u8, at: usize, next: usize) -> NewWord {
     if !tells(told, letter, at) {
         return NewWord {
@@ -101,13 +103,13 @@ pub fn change_at(told: &[u8], letter: u8, at: usize, next: usize) -> NewWord {
     }
 }
 
-// Makes the changes of the list with a letter; by a space, the numbers told become its words. Answers how many those are.
+// Makes the changes of the list with a letter. By a space the numbers told become its words; answers how many they are.
 pub fn change(list: &mut [u32], letter: u8, told: &[u8]) -> usize {
     let mut next = 0;
     for i in 0..told.len() {
-        let change = change_at(told, letter, i, next);
-        content::set(list, change.at, change.to);
-        next = content::one_more(change.at == next, next, told.len());
+        let new = change_at(told, letter, i, next);
+        content::set(list, new.at, new.to);
+        next = content::one_more(new.at == next, next, told.len());
     }
     next
 }

@@ -26,13 +26,17 @@ fn read(five: &[u32], file: &[u8], words: &mut [u32]) -> Answer {
     }
 }
 
-// A file as it should be, for a reader.
+// A file as it should be, for a reader. A case whose file is not written says so.
 pub fn put(five: &[u32], words: &[u32], room: &mut [u8]) {
-    write(
-        five,
-        words,
-        content::lent_bytes(room, content::length(five, 4)),
-    );
+    let file = content::lent_bytes(room, content::length(five, 4));
+    let answer = write(five, words, file);
+    if let Answer::Refused {
+        number: _,
+        row: _,
+        node: _,
+    } = answer {
+        say::text(b" not written,");
+    }
 }
 
 // Says the writer's answer and whether the lent file was kept.

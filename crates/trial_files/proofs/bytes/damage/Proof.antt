@@ -1,4 +1,4 @@
--- The list keeps its length.
+-- The file keeps its length.
 use borrow.Author.Needs.{needs}
 use Prim.Native.Nat.{_-_}
 use mathlib.Core.Path.{_≡_}
