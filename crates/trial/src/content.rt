@@ -1,12 +1,9 @@
-// Lists of words and of bytes: one word of them, all of them alike, and what a call left in them.
+// Lists of words and of bytes: one word of them, a part of them, all of them alike, and what a call left in them.
 ghost use Prim.Native.Nat.{_≤_};
 use crate::say;
 
 // What every word of a lent list is before a call. No right answer of these runs holds it.
 pub const LENT_WORD: u32 = 2863311530;
-
-// Room for the longest list of one step.
-pub type List = [u32; 600];
 
 // A word of a list, 0 past its end.
 pub fn word(list: &[u32], at: usize) -> u32 {
@@ -16,10 +13,23 @@ pub fn word(list: &[u32], at: usize) -> u32 {
     0
 }
 
+// A length that a list of lengths holds.
+pub fn length(list: &[u32], at: usize) -> usize {
+    word(list, at) as usize
+}
+
 pub fn set(list: &mut [u32], at: usize, to: u32) {
     if at < list.len() {
         list[at] = to;
     }
+}
+
+// A byte of a file or a text, 0 past its end.
+pub fn byte(file: &[u8], at: usize) -> u8 {
+    if at < file.len() {
+        return file[at];
+    }
+    0
 }
 
 pub fn least(a: usize, b: usize) -> usize
@@ -46,6 +56,31 @@ pub fn lent_part(list: &mut [u32], length: usize) -> &mut [u32] {
     &mut list[0..end]
 }
 
+// The first bytes of a file, or all where there are fewer.
+pub fn bytes(file: &[u8], length: usize) -> &[u8] {
+    let end = least(length, file.len());
+    &file[0..end]
+}
+
+pub fn bytes_from(file: &[u8], from: usize) -> &[u8] {
+    let start = least(from, file.len());
+    &file[start..]
+}
+
+// The bytes after a place.
+pub fn bytes_after(file: &[u8], at: usize) -> &[u8] {
+    bytes_from(bytes_from(file, at), 1)
+}
+
+pub fn byte_after(file: &[u8], at: usize) -> u8 {
+    byte(bytes_after(file, at), 0)
+}
+
+pub fn lent_bytes(file: &mut [u8], length: usize) -> &mut [u8] {
+    let end = least(length, file.len());
+    &mut file[0..end]
+}
+
 fn next_in(row: &[u32], at: usize) -> usize {
     if at < row.len() {
         let next = at + 1;
@@ -56,18 +91,23 @@ fn next_in(row: &[u32], at: usize) -> usize {
     0
 }
 
+// A word of a row that stands at a place of a list. Nine words are a node's: its identifier is its place, as no other's is.
+fn repeated(row: &[u32], at: usize, place: usize) -> u32 {
+    if row.len() == 9 {
+        if at == 0 {
+            return (place % 4294967296) as u32;
+        }
+    }
+    word(row, at)
+}
+
 // The list from a place on becomes the row, again and again.
 pub fn repeat(list: &mut [u32], from: usize, row: &[u32]) {
     let mut at = 0;
     for i in from..list.len() {
-        set(list, i, word(row, at));
+        set(list, i, repeated(row, at, i));
         at = next_in(row, at);
     }
-}
-
-pub fn lend(list: &mut [u32]) {
-    let row = [LENT_WORD];
-    repeat(list, 0, &row);
 }
 
 pub fn one_more(found: bool, count: usize, most: usize) -> usize {
@@ -79,21 +119,23 @@ pub fn one_more(found: bool, count: usize, most: usize) -> usize {
     count
 }
 
-// How many words are still as lent.
-fn words_left(list: &[u32]) -> usize {
+// How many words of the list are the row's, again and again.
+fn alike(list: &[u32], row: &[u32]) -> usize {
     let mut count = 0;
+    let mut at = 0;
     for i in 0..list.len() {
-        count = one_more(word(list, i) == LENT_WORD, count, list.len());
+        count = one_more(word(list, i) == word(row, at), count, list.len());
+        at = next_in(row, at);
     }
     count
 }
 
-pub fn say_left(left: usize, length: usize) {
-    if left == length {
+pub fn say_left(kept: bool, filled: bool) {
+    if kept {
         say::text(b" kept");
         return;
     }
-    if left == 0 {
+    if filled {
         say::text(b" filled");
         return;
     }
@@ -102,16 +144,18 @@ pub fn say_left(left: usize, length: usize) {
 
 // Says whether a lent list is as it was, or wholly filled.
 pub fn say_kept(list: &[u32]) {
-    say_left(words_left(list), list.len());
+    let row = [LENT_WORD];
+    let left = alike(list, &row);
+    say_left(left == list.len(), left == 0);
 }
 
-// The first bytes of a file, or all where there are fewer.
-pub fn bytes(file: &[u8], length: usize) -> &[u8] {
-    let end = least(length, file.len());
-    &file[0..end]
-}
-
-pub fn bytes_from(file: &[u8], from: usize) -> &[u8] {
-    let start = least(from, file.len());
-    &file[start..]
+// Says whether two lists have the same words.
+pub fn say_same(a: &[u32], b: &[u32]) {
+    if a.len() == b.len() {
+        if alike(a, b) == a.len() {
+            say::text(b", the same words");
+            return;
+        }
+    }
+    say::text(b", other words");
 }

@@ -1,5 +1,4 @@
-// What the test program `cases` is made of: cases as lines of text, the lists of B, the calls with what they say, and printing.
-pub mod b;
+// What the test program `cases` is made of: lines of text and what they tell, lists of words and of bytes, and printing.
 pub mod content;
 pub mod line;
 pub mod say;

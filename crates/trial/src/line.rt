@@ -1,131 +1,133 @@
-// A case is a line of text: what is said, a colon, and what is told, in parts with a space or an equals sign before each.
-// A proof pays for each statement and each local and not for the length of a text, so cases in text are quick to prove.
+// Lines of text and what they tell: numbers after spaces, the words of a list in turn, and changes of a list by its letter, as c17=0,
+// which makes word 17 of the list c 0. A proof pays for each statement and not for what the program reads, so a case costs none.
 use crate::content;
 
-// Where a line begins.
-fn start(text: &[u8], number: usize) -> usize {
-    let mut at = 0;
-    let mut left = number;
+// What is looked for in a text: a byte, one with another after it, or any but one.
+pub enum Sought {
+    Byte(u8),
+    Pair(u8, u8),
+    Other(u8),
+}
+
+// A word of a list, and what it becomes.
+pub struct NewWord {
+    pub at: usize,
+    pub to: u32,
+}
+
+pub fn is_at(text: &[u8], at: usize, sought: Sought) -> bool {
+    let found = content::byte(text, at);
+    match sought {
+        Sought::Byte(byte) => found == byte,
+        Sought::Pair(byte, after) => found == byte && content::byte_after(text, at) == after,
+        Sought::Other(byte) => found != byte,
+    }
+}
+
+// Where what is looked for first stands, or the length where it does not.
+pub fn find(text: &[u8], sought: Sought) -> usize {
     for i in 0..text.len() {
-        if 0 < left {
-            at = i + 1;
-            left = left_after(left, text[i]);
+        if is_at(text, i, sought) {
+            return i;
         }
     }
-    at
+    text.len()
 }
 
-fn left_after(left: usize, byte: u8) -> usize {
-    if byte == b'\n' {
-        if 0 < left {
-            return left - 1;
-        }
-    }
-    left
+// The first line, without its line feed.
+pub fn first(text: &[u8]) -> &[u8] {
+    content::bytes(text, find(text, Sought::Byte(b'\n')))
 }
 
-// How many bytes come before the first of a kind, or all where there is none.
-fn before(text: &[u8], byte: u8) -> usize {
-    let mut at = text.len();
-    for i in 0..text.len() {
-        if text[i] == byte {
-            at = content::least(at, i);
-        }
-    }
-    at
+// The first line, but for the very first, that begins with a letter.
+fn named(text: &[u8], letter: u8) -> &[u8] {
+    first(content::bytes_after(text, find(text, Sought::Pair(b'\n', letter))))
 }
 
-// A line of a text, by its number from 0.
-pub fn of(text: &[u8], number: usize) -> &[u8] {
-    let rest = content::bytes_from(text, start(text, number));
-    content::bytes(rest, before(rest, b'\n'))
-}
-
-// What is said, without the colon.
-pub fn said(line: &[u8]) -> &[u8] {
-    content::bytes(line, before(line, b':'))
-}
-
-// The colon and what is told after it.
-pub fn told(line: &[u8]) -> &[u8] {
-    content::bytes_from(line, before(line, b':'))
-}
-
-fn part_after(part: u32, byte: u8) -> u32 {
+fn is_digit(byte: u8) -> bool {
     match byte {
-        b' ' | b'=' => std::num::wrapping_add_u32(part, 1),
-        _ => part,
+        b'0'..=b'9' => true,
+        _ => false,
     }
 }
 
-fn with_digit(number: u32, byte: u8) -> u32 {
-    match byte {
-        b'0'..=b'9' => ((10 * (number as u64) + (byte as u64) - 48) % 4294967296) as u32,
+fn with_digit(number: u32, digit: u8) -> u32 {
+    match digit {
+        b'0'..=b'9' => ((10 * (number as u64) + (digit as u64) - 48) % 4294967296) as u32,
         _ => number,
     }
 }
 
-// The number in a part, 0 where there is none.
-pub fn number(told: &[u8], of: u32) -> u32 {
-    let mut part = 0;
+// The number that a text begins with, 0 where there is none.
+fn number(text: &[u8]) -> u32 {
     let mut found = 0;
-    for i in 0..told.len() {
-        part = part_after(part, told[i]);
-        if part == of {
-            found = with_digit(found, told[i]);
+    for i in 0..text.len() {
+        if !is_digit(text[i]) {
+            return found;
         }
+        found = with_digit(found, text[i]);
     }
     found
 }
 
-pub fn length(told: &[u8], of: u32) -> usize {
-    number(told, of) as usize
+// The number one byte further on.
+fn number_after(text: &[u8], at: usize) -> u32 {
+    number(content::bytes_after(text, at))
 }
 
-fn first_letter(letter: u8, byte: u8) -> u8 {
-    if letter == 0 {
-        if b'a' <= byte {
-            return byte;
-        }
+// Whether a letter stands at a place with a digit after it.
+fn tells(told: &[u8], letter: u8, at: usize) -> bool {
+    content::byte(told, at) == letter && is_digit(content::byte_after(told, at))
+}
+
+// What is told at a place for the list with a letter, or by a number after a space for its next word.
+// Where nothing is told, a word that no list has.
+pub fn change_at(told: &[u8], letter: u8, at: usize, next: usize) -> NewWord {
+    if !tells(told, letter, at) {
+        return NewWord {
+            at: 4294967295,
+            to: 0,
+        };
     }
-    letter
+    let number = number_after(told, at);
+    if letter == b' ' {
+        return NewWord {
+            at: next,
+            to: number,
+        };
+    }
+    let rest = content::bytes_from(told, at);
+    NewWord {
+        at: number as usize,
+        to: number_after(rest, find(rest, Sought::Byte(b'='))),
+    }
 }
 
-// The first letter of a part, 0 where there is none.
-pub fn letter(told: &[u8], of: u32) -> u8 {
-    let mut part = 0;
-    let mut found = 0;
+// Makes the changes of the list with a letter. By a space the numbers told become its words; answers how many they are.
+pub fn change(list: &mut [u32], letter: u8, told: &[u8]) -> usize {
+    let mut next = 0;
     for i in 0..told.len() {
-        part = part_after(part, told[i]);
-        if part == of {
-            found = first_letter(found, told[i]);
-        }
+        let new = change_at(told, letter, i, next);
+        content::set(list, new.at, new.to);
+        next = content::one_more(new.at == next, next, told.len());
     }
-    found
+    next
 }
 
-// A list becomes the numbers told.
-pub fn put(list: &mut [u32], told: &[u8]) {
-    let mut part = 1;
-    for i in 0..list.len() {
-        content::set(list, i, number(told, part));
-        part = std::num::wrapping_add_u32(part, 1);
-    }
+// A list becomes the numbers told, with those after a star again and again, or zeros after them. Answers how many come once.
+pub fn put(list: &mut [u32], told: &[u8]) -> usize {
+    let mut row = [0u32; 10];
+    let star = find(told, Sought::Byte(b'*'));
+    let once = change(list, b' ', content::bytes(told, star));
+    let width = change(&mut row, b' ', content::bytes_from(told, star));
+    content::repeat(list, once, content::part(&row, width));
+    once
 }
 
-// Makes the change told in a part and the next one, if it is one of this list.
-fn change_word(list: &mut [u32], kind: u8, told: &[u8], part: u32) {
-    if letter(told, part) == kind {
-        let next = std::num::wrapping_add_u32(part, 1);
-        content::set(list, length(told, part), number(told, next));
-    }
-}
-
-// Makes the changes of one list, from part 2 on: c17=0 makes word 17 of the list with the letter c 0.
-pub fn change(list: &mut [u32], kind: u8, told: &[u8]) {
-    let mut part = 2;
-    for i in 0..told.len() {
-        change_word(list, kind, told, part);
-        part = std::num::wrapping_add_u32(part, 1);
-    }
+// A list becomes what the line that begins with its letter tells, with its changes there. Answers how many words come once.
+pub fn make(list: &mut [u32], letter: u8, section: &[u8]) -> usize {
+    let line = named(section, letter);
+    let once = put(list, line);
+    change(list, letter, line);
+    once
 }

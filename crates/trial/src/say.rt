@@ -1,5 +1,4 @@
 // What the program prints: text, numbers, answers, and the words of a list.
-use crate::line;
 use tables::Answer;
 
 pub fn text(bytes: &[u8]) {
@@ -22,18 +21,6 @@ pub fn line_end() {
     text(b"\n");
 }
 
-pub fn heading(bytes: &[u8]) {
-    line_end();
-    text(bytes);
-    line_end();
-}
-
-// What a case says, with its colon.
-pub fn case(case: &[u8]) {
-    text(line::said(case));
-    text(b":");
-}
-
 // A refusal as its number, row and node.
 pub fn answer(given: Answer) {
     match given {
@@ -54,34 +41,22 @@ pub fn answer(given: Answer) {
     }
 }
 
-fn word(before: u32, n: u32) {
-    if before == 0 {
-        comma();
+// Before the first word of each row but the first.
+fn row_end(at: usize, width: usize) {
+    if 0 < at {
+        if 0 < width {
+            if at % width == 0 {
+                comma();
+            }
+        }
     }
-    space();
-    number(n);
-}
-
-fn one_less(left: u32, width: u32) -> u32 {
-    if left == 0 {
-        return one_less_than(width);
-    }
-    left - 1
-}
-
-fn one_less_than(width: u32) -> u32 {
-    if width == 0 {
-        return 0;
-    }
-    width - 1
 }
 
 // The words of a list, with a comma after each row of `width` words.
-pub fn words(list: &[u32], width: u32) {
-    let mut left = width;
+pub fn words(list: &[u32], width: usize) {
     for i in 0..list.len() {
-        word(left, list[i]);
-        left = one_less(left, width);
+        row_end(i, width);
+        space();
+        number(list[i]);
     }
-    line_end();
 }

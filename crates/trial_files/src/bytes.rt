@@ -1,70 +1,56 @@
-// The bytes of a file: one of them, all of them alike, and what a call left in them; and whether words came back the same.
+// The bytes of a file: what a call left in them, and its words of four bytes.
 use trial::content;
-use trial::content::word;
-use trial::say;
+use trial::line;
+use trial::line::Sought;
 
 // What every byte of a lent file is before a call. No right answer of these runs holds it.
 pub const LENT_BYTE: u8 = 170;
 
-pub fn lent_bytes(file: &mut [u8], length: usize) -> &mut [u8] {
-    let end = content::least(length, file.len());
-    &mut file[0..end]
+// Says whether a lent file is as it was, or wholly filled.
+pub fn say_kept(file: &[u8]) {
+    content::say_left(
+        line::find(file, Sought::Other(LENT_BYTE)) == file.len(),
+        line::find(file, Sought::Byte(LENT_BYTE)) == file.len(),
+    );
 }
 
-pub fn byte(file: &[u8], at: usize) -> u8 {
-    if at < file.len() {
-        return file[at];
-    }
-    0
+// A word of a file, low byte first.
+pub fn word(file: &[u8], at: u16) -> u32 {
+    let first = 4 * (at as usize);
+    let low = content::byte(file, first) as u32 + 256 * (content::byte(file, first + 1) as u32);
+    let high = content::byte(file, first + 2) as u32
+        + 256 * (content::byte(file, first + 3) as u32);
+    low + 65536 * high
 }
 
-pub fn set_byte(file: &mut [u8], at: usize, to: u8) {
+fn set_byte(file: &mut [u8], at: usize, to: u8) {
     if at < file.len() {
         file[at] = to;
     }
 }
 
-pub fn lend_bytes(file: &mut [u8]) {
-    for i in 0..file.len() {
-        set_byte(file, i, LENT_BYTE);
-    }
+fn set_word(file: &mut [u8], at: u16, to: u32) {
+    let first = 4 * (at as usize);
+    set_byte(file, first, (to % 256) as u8);
+    set_byte(file, first + 1, (to / 256 % 256) as u8);
+    set_byte(file, first + 2, (to / 65536 % 256) as u8);
+    set_byte(file, first + 3, (to / 16777216 % 256) as u8);
 }
 
-fn bytes_left(file: &[u8]) -> usize {
-    let mut count = 0;
-    for i in 0..file.len() {
-        count = content::one_more(byte(file, i) == LENT_BYTE, count, file.len());
-    }
-    count
+// Adds to the word that is told at a place, modulo 2^32. Files are too short for word 65,535.
+fn damage_at(file: &mut [u8], told: &[u8], at: usize) {
+    let new = line::change_at(told, b'a', at, 0);
+    let place = content::least(new.at, 65535) as u16;
+    set_word(
+        file,
+        place,
+        std::num::wrapping_add_u32(word(file, place), new.to),
+    );
 }
 
-pub fn say_bytes_kept(file: &[u8]) {
-    content::say_left(bytes_left(file), file.len());
-}
-
-fn alike(a: &[u32], b: &[u32], at: usize) -> bool {
-    word(a, at) == word(b, at)
-}
-
-// Whether two lists have the same words.
-pub fn same(a: &[u32], b: &[u32]) -> bool {
-    let mut differing = 0;
-    for i in 0..a.len() {
-        if !alike(a, b, i) {
-            differing = content::one_more(true, differing, a.len());
-        }
+// Makes the additions told: a127=1 adds 1 to word 127 of the file.
+pub fn damage(file: &mut [u8], told: &[u8]) {
+    for i in 0..told.len() {
+        damage_at(file, told, i);
     }
-    if a.len() == b.len() {
-        return differing == 0;
-    }
-    false
-}
-
-// Says whether two lists have the same words.
-pub fn say_same(a: &[u32], b: &[u32]) {
-    if same(a, b) {
-        say::text(b", the same words");
-        return;
-    }
-    say::text(b", other words");
 }

@@ -1,11 +1,4 @@
-// Block files: each kind both ways, and refusals 14 to 18; and how a case on block files is run.
+// How a case on block files is run: its words and its file, and the readers and writers.
 pub mod bytes;
-pub mod damage;
-pub mod files;
 pub mod run;
 pub mod transfer;
-
-pub fn all() {
-    files::all();
-    damage::all();
-}

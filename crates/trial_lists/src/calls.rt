@@ -1,59 +1,72 @@
 // The public calls on word lists: each prints its name, its answer and whether the lists lent to it were kept.
+// A list that a call fills stands in a function of its own, with room for K = 1,441 at N = 1.
 use trial::content;
+use trial::content::LENT_WORD;
+use trial::line;
 use trial::say;
 
-pub fn simulated(corridor: &[u32], demands: &[u32], plan: &[u32], lent: &mut [u32]) {
-    content::lend(lent);
+// The words that a call filled, if the case is of that call: from one told number up to another, or all.
+fn say_filled(told: &[u8], call: u8, name: &[u8], list: &[u32], width: usize) {
+    if content::byte(told, 0) == call {
+        let mut ends = [0u32, 4294967295];
+        line::change(&mut ends, b' ', told);
+        say::text(name);
+        say::words(
+            content::between(list, content::length(&ends, 0), content::length(&ends, 1)),
+            width,
+        );
+    }
+}
+
+pub fn simulated(told: &[u8], corridor: &[u32], demands: &[u32], plan: &[u32], length: usize) {
+    let mut room = [LENT_WORD; 11538];
+    let lent = content::lent_part(&mut room, length);
     let answer = simulate::simulate(corridor, demands, plan, lent);
     say::text(b" simulate ");
     say::answer(answer);
     content::say_kept(lent);
+    say_filled(told, b's', b", record", lent, 4);
 }
 
 pub fn checked(corridor: &[u32], demands: &[u32], words: &[u32]) {
     let answer = convert::check(corridor, demands, words);
     say::text(b" check ");
     say::answer(answer);
+    say::comma();
 }
 
-pub fn converted(corridor: &[u32], demands: &[u32], words: &[u32], lent: &mut [u32]) {
-    content::lend(lent);
+pub fn converted(told: &[u8], corridor: &[u32], demands: &[u32], words: &[u32], length: usize) {
+    let mut room = [LENT_WORD; 5764];
+    let lent = content::lent_part(&mut room, length);
     let answer = convert::convert(corridor, demands, words, lent);
     say::text(b" convert ");
     say::answer(answer);
     content::say_kept(lent);
+    say_filled(told, b'c', b", plan", lent, 2);
+}
+
+pub fn normal(told: &[u8], corridor: &[u32], demands: &[u32], plan: &[u32], lengths: &[u32]) {
+    let mut room = [LENT_WORD; 11538];
+    let work = content::lent_part(&mut room, content::length(lengths, 4));
+    normal_form(told, corridor, demands, plan, lengths, work);
+    say_filled(told, b'l', b", work record", work, 4);
 }
 
 // The work record first, then the plan.
-pub fn normal(corridor: &[u32], demands: &[u32], plan: &[u32], work: &mut [u32], lent: &mut [u32]) {
-    content::lend(work);
-    content::lend(lent);
+fn normal_form(
+    told: &[u8],
+    corridor: &[u32],
+    demands: &[u32],
+    plan: &[u32],
+    lengths: &[u32],
+    work: &mut [u32],
+) {
+    let mut room = [LENT_WORD; 5764];
+    let lent = content::lent_part(&mut room, content::length(lengths, 5));
     let answer = convert::normal_form(corridor, demands, plan, work, lent);
     say::text(b" normal form ");
     say::answer(answer);
     content::say_kept(work);
     content::say_kept(lent);
-}
-
-pub fn checked_and_converted(corridor: &[u32], demands: &[u32], words: &[u32], lent: &mut [u32]) {
-    checked(corridor, demands, words);
-    say::comma();
-    converted(corridor, demands, words, lent);
-}
-
-// All four on one line, with a plan and a proposed record that need not belong together.
-pub fn all(
-    corridor: &[u32],
-    demands: &[u32],
-    plan: &[u32],
-    words: &[u32],
-    lent_record: &mut [u32],
-    lent_plan: &mut [u32],
-) {
-    simulated(corridor, demands, plan, lent_record);
-    say::comma();
-    checked_and_converted(corridor, demands, words, lent_plan);
-    say::comma();
-    normal(corridor, demands, plan, lent_record, lent_plan);
-    say::line_end();
+    say_filled(told, b'n', b", plan", lent, 2);
 }

@@ -1,82 +1,81 @@
-// Runs a case on lists: part 1 of what is told names the calls, and c17=0 makes word 17 of the corridor 0.
-// The other lists are d for demands, p for plan and r for record.
+// Runs a case on word lists, which the lines of its section tell: corridor c, demands d, plan p, record r, and lengths l.
+// No function holds more than 64 KiB of lists; the compiler may join the frames.
 use crate::calls;
 use trial::content;
-use trial::content::List;
 use trial::line;
 use trial::say;
 
-fn say_record(list: &[u32]) {
-    say::text(b", record");
-    say::words(list, 4);
+// The lengths are of corridor, demands, plan, proposed record, lent record and lent plan.
+pub fn case(section: &[u8], told: &[u8]) {
+    let mut lengths = [0u32; 6];
+    line::make(&mut lengths, b'l', section);
+    line::change(&mut lengths, b'l', told);
+    given(section, told, &lengths);
 }
 
-fn say_plan(list: &[u32]) {
-    say::text(b", plan");
-    say::words(list, 2);
+fn given(section: &[u8], told: &[u8], lengths: &[u32]) {
+    let mut corridor = [0u32; 600];
+    let mut demands = [0u32; 5765];
+    let mut plan = [0u32; 5764];
+    line::make(&mut corridor, b'c', section);
+    line::make(&mut demands, b'd', section);
+    line::make(&mut plan, b'p', section);
+    proposed(
+        section,
+        told,
+        lengths,
+        content::lent_part(&mut corridor, content::length(lengths, 0)),
+        content::lent_part(&mut demands, content::length(lengths, 1)),
+        content::lent_part(&mut plan, content::length(lengths, 2)),
+    );
 }
 
-fn say_work(list: &[u32]) {
-    say::text(b"the work record of that normal form:");
-    say::words(list, 4);
+// The record is the section's, or the plan's where none is told, and then come the changes of the case.
+fn proposed(
+    section: &[u8],
+    told: &[u8],
+    lengths: &[u32],
+    corridor: &mut [u32],
+    demands: &mut [u32],
+    plan: &mut [u32],
+) {
+    let mut room = [0u32; 11538];
+    let words = content::lent_part(&mut room, content::length(lengths, 3));
+    if line::make(words, b'r', section) == 0 {
+        simulate::simulate(corridor, demands, plan, words);
+    }
+    line::change(corridor, b'c', told);
+    line::change(demands, b'd', told);
+    line::change(plan, b'p', told);
+    line::change(words, b'r', told);
+    call(told, lengths, corridor, demands, plan, words);
 }
 
-// Simulate, convert and normal print the list that they filled; refused is convert without that, work is all with the work record.
-pub fn call(
-    kind: u8,
+// Simulate, convert (a check too) and normal make one call, lent is a normal form with its work record, and all makes every call.
+fn call(
+    told: &[u8],
+    lengths: &[u32],
     corridor: &[u32],
     demands: &[u32],
     plan: &[u32],
     words: &[u32],
-    lent_record: &mut [u32],
-    lent_plan: &mut [u32],
 ) {
-    match kind {
-        b's' => {
-            calls::simulated(corridor, demands, plan, lent_record);
-            say_record(lent_record);
-        }
+    let record_length = content::length(lengths, 4);
+    let plan_length = content::length(lengths, 5);
+    match content::byte(told, 0) {
+        b's' => calls::simulated(told, corridor, demands, plan, record_length),
         b'c' => {
-            calls::checked_and_converted(corridor, demands, words, lent_plan);
-            say_plan(lent_plan);
+            calls::checked(corridor, demands, words);
+            calls::converted(told, corridor, demands, words, plan_length);
         }
-        b'r' => {
-            calls::checked_and_converted(corridor, demands, words, lent_plan);
-            say::line_end();
-        }
-        b'n' => {
-            calls::normal(corridor, demands, plan, lent_record, lent_plan);
-            say_plan(lent_plan);
-        }
-        b'w' => {
-            calls::all(corridor, demands, plan, words, lent_record, lent_plan);
-            say_work(lent_record);
-        }
+        b'n' | b'l' => calls::normal(told, corridor, demands, plan, lengths),
         _ => {
-            calls::all(corridor, demands, plan, words, lent_record, lent_plan);
+            calls::simulated(told, corridor, demands, plan, record_length);
+            say::comma();
+            calls::checked(corridor, demands, words);
+            calls::converted(told, corridor, demands, words, plan_length);
+            say::comma();
+            calls::normal(told, corridor, demands, plan, lengths);
         }
     }
-}
-
-// The lengths are of corridor, demands, plan, proposed record, lent record and lent plan.
-pub fn case(
-    case: &[u8],
-    corridor: List,
-    demands: List,
-    plan: List,
-    record: List,
-    lengths: [usize; 6],
-) {
-    let mut lent_record = [0u32; 600];
-    let mut lent_plan = [0u32; 600];
-    say::case(case);
-    call(
-        line::letter(line::told(case), 1),
-        content::part(&corridor, lengths[0]),
-        content::part(&demands, lengths[1]),
-        content::part(&plan, lengths[2]),
-        content::part(&record, lengths[3]),
-        content::lent_part(&mut lent_record, lengths[4]),
-        content::lent_part(&mut lent_plan, lengths[5]),
-    );
 }

@@ -7,22 +7,15 @@ use Rattle.trial.proofs.line.change.Statement.{statement}
 use Rattle.trial.proofs.line.change.Tie as tie
 
 abbrev Inv-loop : tie.InvT-loop
-Inv-loop list₀ kind told part₀ i₀ i-end list part i = length list ≡ length list₀
+Inv-loop list₀ letter told next₀ i₀ i-end list next i = length list ≡ length list₀
 
 abbrev μ-loop : tie.MeasureT-loop
-μ-loop list₀ kind told part₀ i₀ i-end list part i = i-end - i
+μ-loop list₀ letter told next₀ i₀ i-end list next i = i-end - i
 
 pub change-spec : {M : Type 1} → statement M
 change-spec =
     tie.close
-    (tie.spec
-    Inv-loop
-    μ-loop
-    (λ c. search needs)
-    (λ c κs. search needs)
-    (λ c κs. search needs)
-    (λ c. search needs)
-    (λ c. search needs)
-    (λ c. search needs)
-    (λ c. search needs)
+    (tie.spec Inv-loop μ-loop
+    (λ c. search needs) (λ c κs. search needs) (λ c κs. search needs) (λ c κs. search needs)
+    (λ c. search needs) (λ c. search needs) (λ c. search needs) (λ c. search needs)
     (λ c. search needs))
