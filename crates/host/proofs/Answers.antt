@@ -8,17 +8,17 @@ use borrow.Author.Needs.{needs}
 use lib.Dec.{leb, eqb}
 use lib.ListN.{length, getD}
 use Rattle.tables.specs.declared.Answer.{Answer}
-use Rattle.tables.specs.Answer.{orElse, unless, hostNumber, sized}
+use Rattle.tables.specs.Answer.{orElse, unless, hostNumber, sized, Small}
 use Rattle.tables.specs.First.{firstPlace}
-use Rattle.tables.proofs.Answers.{Small, small-refusal, small-orElse, small-unless, orElse-assoc}
+use Rattle.tables.proofs.Answers.{small-refusal, small-orElse, small-unless, orElse-assoc}
 use Rattle.tables.proofs.First.{small-node, small-place}
 use Rattle.tables.proofs.Tests.{and-iff}
 use Rattle.road.specs.Corridor.{Link, Ramp, NodeState, Node, Road, Plan, Flows, nodes}
 use Rattle.road.specs.Step.{Junction, sending, outflow}
 use Rattle.road.specs.Run.{junction, next, cost}
-use Rattle.lists.specs.Words.{linksOf, stepsOf, roadOf, planOf, traceOf, traceLength, planLength, recordLength}
+use Rattle.lists.specs.Words.{linksOf, stepsOf, roadOf, planOf, recordWidth, traceOf, traceLength, planLength, recordLength}
 use Rattle.faults.specs.Lists.{within, implies, linkFault, rampFault, startFault, demandFault, planFault}
-use Rattle.lists.specs.Refusals.{fresh, linkRefusal, rampRefusal, startRefusal, demandRefusal, ranges, bounds, sizes}
+use Rattle.lists.specs.Refusals.{fresh, linkRefusal, rampRefusal, startRefusal, demandRefusal, ranges, bounds, planBounds, sizes}
 use Rattle.lists.proofs.Limits.{sizes-iff}
 use Rattle.simulate.specs.Simulate.{simulateSizes, simulateAnswer, simulated}
 use Rattle.convert.specs.Convert.{checkAnswer, convertAnswer, normalRefusal, normalAnswer}
@@ -31,7 +31,7 @@ use Rattle.block.specs.Calls.{toldFits, fileAnswer, readAnswer, writeAnswer}
 use Rattle.block.proofs.Bounds.{file-bounded, read-bounded, write-bounded}
 use Rattle.block.proofs.Calls.{told-is, length-high}
 use Rattle.files.specs.Files.{corridorIn, demandsIn, recordIn, filesAnswer, readThenCheck, checkFiles, convertFiles}
-use Rattle.faults.specs.Records.{sameState, unlessThen, fixedFault, stepFault}
+use Rattle.faults.specs.Records.{sameState, unlessThen, fixedFault, stepFault, totalFault}
 use Rattle.convert.specs.Refusals.{costFault, fixedAt, stepAt, judged}
 
 -- ---- each fault's number is small
@@ -99,13 +99,13 @@ step-small junction flows moved after =
     (sameState after moved)
     (leb (after .queue) (junction .ramp .queueLimit))
 
-cost-small : (road : Road) (words : List ℕ) → costFault road words ≤ 255
+total-small : (total low high : ℕ) → totalFault total low high ≤ 255
+unfolding totalFault
+total-small total low high = small-unless (eqb low (total % 4294967296) && eqb high (total / 4294967296)) 13 (omega arith)
+
+cost-small : (width : ℕ) (road : Road) (words : List ℕ) → costFault width road words ≤ 255
 unfolding costFault
-cost-small road words =
-    small-unless
-    (eqb (getD words (traceLength (road .links) (road .steps)) 0) (cost road (traceOf road words) % 4294967296)
-    && eqb (getD words (traceLength (road .links) (road .steps) + 1) 0) (cost road (traceOf road words) / 4294967296))
-    13 (omega arith)
+cost-small width road words = total-small (cost road (traceOf width road words)) _ _
 
 module _ (road : Road) (few : road .links ≤ 64) (short : road .steps ≤ 1440) where
   pub ranges-small : Small (ranges road)
@@ -121,21 +121,21 @@ module _ (road : Road) (few : road .links ≤ 64) (short : road .steps ≤ 1440)
   bounds-small plan =
       small-place (road .steps) (nodes road) _ (omega arith) (omega arith) (λ k i. plan-small (road .node i .link) (road .node i .ramp) (plan .rate k i) (plan .limit k i))
 
-  pub judged-small : (words : List ℕ) → Small (judged road words)
+  pub judged-small : (width : ℕ) (words : List ℕ) → Small (judged width road words)
   unfolding judged
-  judged-small words =
-      let trace = traceOf road words in
+  judged-small width words =
+      let trace = traceOf width road words in
       small-orElse (firstPlace (suc (road .steps)) (nodes road) (fixedAt road trace)) _
       (small-place (suc (road .steps)) (nodes road) _ (omega arith) (omega arith) (λ k i. fixed-small road k i (trace .state k i) (trace .flows k i)))
       (small-orElse (firstPlace (road .steps) (nodes road) (stepAt road trace)) _
       (small-place (road .steps) (nodes road) _ (omega arith) (omega arith)
       (λ k i. step-small (junction road k (trace .state k) i) (trace .flows k i) (next road k (trace .state k) (trace .flows k) i) (trace .state (suc k) i)))
-      (small-refusal (costFault road words) 0 0 (cost-small road words) (omega arith) (omega arith)))
+      (small-refusal (costFault width road words) 0 0 (cost-small width road words) (omega arith) (omega arith)))
 
 -- a wrong length is refused before any place is named
 pub sized-small : (fits : Bool) (rest : Answer) → (fits ≡ true → Small rest) → Small (orElse (sized fits) rest)
 sized-small true rest h = h refl
-sized-small false rest h = record { number = omega arith; row = omega arith; node = omega arith }
+sized-small false rest h = small-refusal 1 0 0 (omega arith) (omega arith) (omega arith)
 
 -- ---- the answers of the calls on word lists
 
@@ -145,13 +145,13 @@ module _ (corridor demands : List ℕ) where
   unfolding roadOf
   ranges-fit e = let s = sizes-iff corridor demands .0 e in ranges-small (roadOf corridor demands) (omega (arith, s .links)) (omega (arith, s .steps))
 
-  bounds-fit : (plan : List ℕ) → sizes corridor demands ≡ true → Small (bounds (roadOf corridor demands) (planOf (roadOf corridor demands) plan))
+  bounds-fit : (plan : List ℕ) → sizes corridor demands ≡ true → Small (planBounds corridor demands plan)
   unfolding roadOf
   bounds-fit plan e = let s = sizes-iff corridor demands .0 e in bounds-small (roadOf corridor demands) (omega (arith, s .links)) (omega (arith, s .steps)) _
 
-  judged-fit : (words : List ℕ) → sizes corridor demands ≡ true → Small (judged (roadOf corridor demands) words)
+  judged-fit : (words : List ℕ) → sizes corridor demands ≡ true → Small (judged recordWidth (roadOf corridor demands) words)
   unfolding roadOf
-  judged-fit words e = let s = sizes-iff corridor demands .0 e in judged-small (roadOf corridor demands) (omega (arith, s .links)) (omega (arith, s .steps)) words
+  judged-fit words e = let s = sizes-iff corridor demands .0 e in judged-small (roadOf corridor demands) (omega (arith, s .links)) (omega (arith, s .steps)) recordWidth words
 
   pub simulate-small : (plan : List ℕ) (room : ℕ) → Small (simulateAnswer corridor demands plan room)
   unfolding simulateAnswer simulateSizes
@@ -162,7 +162,7 @@ module _ (corridor demands : List ℕ) where
   pub check-small : (words : List ℕ) → Small (checkAnswer corridor demands words)
   unfolding checkAnswer
   check-small words =
-      sized-small (sizes corridor demands && eqb (length words) (recordLength (linksOf corridor) (stepsOf demands))) _
+      sized-small (sizes corridor demands && eqb (length words) (recordLength recordWidth (linksOf corridor) (stepsOf demands))) _
       (λ e. let s = and-iff (sizes corridor demands) _ .0 e .0 in small-orElse (ranges (roadOf corridor demands)) _ (ranges-fit s) (judged-fit words s))
 
   pub convert-small : (words : List ℕ) (room : ℕ) → Small (convertAnswer corridor demands words room)
@@ -170,7 +170,7 @@ module _ (corridor demands : List ℕ) where
   convert-small words room =
       sized-small
       (sizes corridor demands
-      && (eqb (length words) (recordLength (linksOf corridor) (stepsOf demands)) && eqb room (planLength (linksOf corridor) (stepsOf demands)))) _
+      && (eqb (length words) (recordLength recordWidth (linksOf corridor) (stepsOf demands)) && eqb room (planLength (linksOf corridor) (stepsOf demands)))) _
       (λ e. let s = and-iff (sizes corridor demands) _ .0 e .0 in small-orElse (ranges (roadOf corridor demands)) _ (ranges-fit s) (judged-fit words s))
 
   pub normal-small : (plan : List ℕ) (work room : ℕ) → Small (normalAnswer corridor demands plan work room)
@@ -179,9 +179,9 @@ module _ (corridor demands : List ℕ) where
       let fits : Bool =
       sizes corridor demands
       && (eqb (length plan) (planLength (linksOf corridor) (stepsOf demands))
-      && (eqb work (recordLength (linksOf corridor) (stepsOf demands)) && eqb room (planLength (linksOf corridor) (stepsOf demands)))) in
-      let rest : Answer = orElse (ranges (roadOf corridor demands)) (bounds (roadOf corridor demands) (planOf (roadOf corridor demands) plan)) in
-      let last : Answer = judged (roadOf corridor demands) (simulated corridor demands plan) in
+      && (eqb work (recordLength recordWidth (linksOf corridor) (stepsOf demands)) && eqb room (planLength (linksOf corridor) (stepsOf demands)))) in
+      let rest : Answer = orElse (ranges (roadOf corridor demands)) (planBounds corridor demands plan) in
+      let last : Answer = judged recordWidth (roadOf corridor demands) (simulated corridor demands plan) in
       subst Small (sym (orElse-assoc (sized fits) rest last))
       (sized-small fits (orElse rest last)
       (λ e.
@@ -191,7 +191,7 @@ module _ (corridor demands : List ℕ) where
 -- ---- those of the readers and the writers
 
 bounded-small : (rows : ℕ) (a : Answer) → Bounded rows a → rows ≤ 65535 → Small a
-bounded-small rows a b h = record { number = omega (arith, b .number); row = omega (arith, b .row); node = omega (arith, b .node) }
+bounded-small rows a b h = record { number = omega (arith, b .number); row = omega (arith, b .row); node = omega (arith, b .node); named = b .named }
 
 pub read-small : (kind : Kind) (n k : ℕ) (file : List ℕ) (room : ℕ) → Small (readAnswer kind n k file room)
 read-small kind n k file room = bounded-small 2998 _ (read-bounded kind n k file room) (omega arith)
@@ -213,7 +213,7 @@ module _ (n k : ℕ) (corridor demands words : List ℕ) where
       small-orElse (filesAnswer n k corridor demands words) _
       (small-orElse (fileAnswer Corridor n k corridor) _ (file-small Corridor n k corridor t)
       (small-orElse (fileAnswer Demands n k demands) _ (file-small Demands n k demands t) (file-small Record n k words t)))
-      (check-small (corridorIn n corridor) (demandsIn n k demands) (recordIn n k words))
+      (check-small (corridorIn n corridor) (demandsIn n k demands) (recordIn recordWidth n k words))
 
   pub check-files-small : Small (checkFiles n k corridor demands words)
   unfolding checkFiles

@@ -1,7 +1,6 @@
 // An answer as one number.
 ghost use mathlib.Core.Path.{_≡_};
-ghost use Rattle.tables.specs.Answer.{hostNumber};
-ghost use Rattle.tables.proofs.Answers.{Small};
+ghost use Rattle.tables.specs.Answer.{hostNumber, Small};
 use tables::Answer;
 
 pub mod at_words;

@@ -1,9 +1,9 @@
 // The calls on word lists.
 ghost use mathlib.Core.Path.{_≡_};
 ghost use lib.ListN.{length};
-ghost use Rattle.tables.specs.Answer.{hostNumber, left};
-ghost use Rattle.simulate.specs.Simulate.{simulateAnswer, simulated};
-ghost use Rattle.convert.specs.Convert.{converted, normalForm, checkAnswer, convertAnswer, normalRefusal, normalAnswer};
+ghost use Rattle.tables.specs.Answer.{hostNumber};
+ghost use Rattle.simulate.specs.Simulate.{simulateAnswer, recordLeft};
+ghost use Rattle.convert.specs.Convert.{checkAnswer, convertAnswer, normalAnswer, planLeft, workLeft, normalLeft};
 use crate::inner;
 
 #[no_mangle]
@@ -14,7 +14,7 @@ pub extern "C" fn gigorchid_simulate_words(
     record: &mut [u32],
 ) -> u32
     ensures answered { λ r. ⌜ r ≡ hostNumber (simulateAnswer (now (corridor .entry)) (now (demands .entry)) (now (plan .entry)) (length (now («record» .entry)))) ⌝ }
-    ensures written { λ r. ⌜ now («record» .exit) ≡ left (simulateAnswer (now (corridor .entry)) (now (demands .entry)) (now (plan .entry)) (length (now («record» .entry)))) (simulated (now (corridor .entry)) (now (demands .entry)) (now (plan .entry))) (now («record» .entry)) ⌝ }
+    ensures written { λ _. ⌜ now («record» .exit) ≡ recordLeft (now (corridor .entry)) (now (demands .entry)) (now (plan .entry)) (now («record» .entry)) ⌝ }
 {
     let answer = simulate::simulate(corridor, demands, plan, record);
     inner::number(answer)
@@ -36,7 +36,7 @@ pub extern "C" fn gigorchid_convert_words(
     plan: &mut [u32],
 ) -> u32
     ensures answered { λ r. ⌜ r ≡ hostNumber (convertAnswer (now (corridor .entry)) (now (demands .entry)) (now («record» .entry)) (length (now (plan .entry)))) ⌝ }
-    ensures written { λ r. ⌜ now (plan .exit) ≡ left (convertAnswer (now (corridor .entry)) (now (demands .entry)) (now («record» .entry)) (length (now (plan .entry)))) (converted (now (corridor .entry)) (now (demands .entry)) (now («record» .entry))) (now (plan .entry)) ⌝ }
+    ensures written { λ _. ⌜ now (plan .exit) ≡ planLeft (now (corridor .entry)) (now (demands .entry)) (now («record» .entry)) (now (plan .entry)) ⌝ }
 {
     let answer = convert::convert(corridor, demands, record, plan);
     inner::number(answer)
@@ -51,8 +51,8 @@ pub extern "C" fn gigorchid_normal_words(
     normal: &mut [u32],
 ) -> u32
     ensures answered { λ r. ⌜ r ≡ hostNumber (normalAnswer (now (corridor .entry)) (now (demands .entry)) (now (plan .entry)) (length (now (work .entry))) (length (now (normal .entry)))) ⌝ }
-    ensures worked { λ r. ⌜ now (work .exit) ≡ left (normalRefusal (now (corridor .entry)) (now (demands .entry)) (now (plan .entry)) (length (now (work .entry))) (length (now (normal .entry)))) (simulated (now (corridor .entry)) (now (demands .entry)) (now (plan .entry))) (now (work .entry)) ⌝ }
-    ensures written { λ r. ⌜ now (normal .exit) ≡ left (normalAnswer (now (corridor .entry)) (now (demands .entry)) (now (plan .entry)) (length (now (work .entry))) (length (now (normal .entry)))) (normalForm (now (corridor .entry)) (now (demands .entry)) (now (plan .entry))) (now (normal .entry)) ⌝ }
+    ensures worked { λ _. ⌜ now (work .exit) ≡ workLeft (now (corridor .entry)) (now (demands .entry)) (now (plan .entry)) (now (work .entry)) (length (now (normal .entry))) ⌝ }
+    ensures written { λ _. ⌜ now (normal .exit) ≡ normalLeft (now (corridor .entry)) (now (demands .entry)) (now (plan .entry)) (length (now (work .entry))) (now (normal .entry)) ⌝ }
 {
     let answer = convert::normal_form(corridor, demands, plan, work, normal);
     inner::number(answer)

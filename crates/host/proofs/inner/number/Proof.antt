@@ -1,9 +1,8 @@
 -- A small answer fits 32 bits.
 use native.Mathlib.Omega.{arith}
 use mathlib.Core.Path.{ap, sym, subst}
-use Rattle.tables.specs.Answer.{hostNumber}
+use Rattle.tables.specs.Answer.{hostNumber, Small}
 use Rattle.tables.specs.declared.Answer.the-variants.{Refused}
-use Rattle.tables.proofs.Answers.{Small}
 use Rattle.tables.proofs.Sets.{all}
 use Rattle.host.proofs.inner.number.Statement.{statement}
 use Rattle.host.proofs.inner.number.Tie as tie
