@@ -1,6 +1,7 @@
 // The readers and writers of block files, with what they say. A call is told five numbers: kind, N, K, words and bytes.
 use crate::bytes;
 use tables::Answer;
+use tables::is_refused;
 use trial::content;
 use trial::say;
 
@@ -30,11 +31,7 @@ fn read(five: &[u32], file: &[u8], words: &mut [u32]) -> Answer {
 pub fn put(five: &[u32], words: &[u32], room: &mut [u8]) {
     let file = content::lent_bytes(room, content::length(five, 4));
     let answer = write(five, words, file);
-    if let Answer::Refused {
-        number: _,
-        row: _,
-        node: _,
-    } = answer {
+    if is_refused(answer) {
         say::text(b" not written,");
     }
 }

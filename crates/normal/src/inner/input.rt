@@ -2,7 +2,7 @@
 ghost use mathlib.Core.Path.{_≡_};
 ghost use Prim.Native.Nat.{_≤_};
 ghost use lib.ListN.{length};
-ghost use Rattle.tables.specs.declared.Answer.the-variants.{Accepted, Refused};
+ghost use Rattle.tables.specs.declared.Answer.the-variants.{Accepted};
 ghost use Rattle.payload.specs.File.{blocksFor};
 ghost use Rattle.block.specs.Kinds.{Told, listLength};
 ghost use Rattle.normal.specs.Input.{linksIn, stepsIn, inputAnswer};
@@ -14,6 +14,7 @@ use files::inner::answers;
 use payload::inner::reading;
 use payload::inner::words;
 use tables::Answer;
+use tables::refusal;
 
 // N, K and the places in bytes where the demands start, where the record starts and where it ends.
 pub struct Layout {
@@ -22,17 +23,6 @@ pub struct Layout {
     pub demands: usize,
     pub recorded: usize,
     pub end: usize,
-}
-
-// A refusal that names no place.
-fn refused(number: u32) -> Answer
-    ensures { λ r. ⌜ r ≡ Refused number 0 0 ⌝ }
-{
-    Answer::Refused {
-        number,
-        row: 0,
-        node: 0,
-    }
 }
 
 // How many blocks a kind's file has.
@@ -88,7 +78,7 @@ fn files_left(input: &[u8], n: u32, k: u32) -> Answer
             &input[recorded..],
         );
     }
-    refused(14)
+    refusal(14, 0, 0)
 }
 
 // What is left to refuse once N is good.
@@ -99,13 +89,13 @@ fn steps_left(input: &[u8], n: u32) -> Answer
 {
     let block = blocks_of(Kind::Corridor, n, 1);
     if input.len() < block * 512 + 12 {
-        return refused(14);
+        return refusal(14, 0, 0);
     }
     let k = words::word_at(input, block * 128 + 2);
     if calls::told_fits(n, k) {
         return files_left(input, n, k);
     }
-    refused(1)
+    refusal(1, 0, 0)
 }
 
 // The answer to an input of any length. N is tested beside a K that is good.
@@ -113,14 +103,14 @@ pub fn input_answer(input: &[u8]) -> Answer
     ensures { λ r. ⌜ r ≡ inputAnswer (now (input .entry)) ⌝ }
 {
     if input.len() > 65536 {
-        return refused(14);
+        return refusal(14, 0, 0);
     }
     if input.len() < 12 {
-        return refused(14);
+        return refusal(14, 0, 0);
     }
     let n = words::word_at(input, 2);
     if calls::told_fits(n, 1) {
         return steps_left(input, n);
     }
-    refused(1)
+    refusal(1, 0, 0)
 }

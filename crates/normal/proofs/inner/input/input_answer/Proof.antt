@@ -23,16 +23,16 @@ unfolding linksIn
 returns-4 c =
     let i = c .before in
     let w = i .before .before in
-    input-unlinked _ _ (omega arith) (omega arith) _ (w .word-at .ensures) _ (i .before .told-fits .ensures) (c .refused3 .ensures) (i .if3 .left)
+    input-unlinked _ _ (omega arith) (omega arith) _ (w .word-at .ensures) _ (i .before .told-fits .ensures) (c .refusal3 .ensures) (i .if3 .left)
 
 pub input-answer-spec : {M : Type 1} → statement M
 input-answer-spec =
     tie.close
     (tie.spec
     (λ c κs. search needs)
-    (λ c. input-long _ _ (c .refused .ensures) (omega arith))
+    (λ c. input-long _ _ (c .refusal .ensures) (omega arith))
     (λ c κs. search needs)
-    (λ c. input-short _ _ (omega arith) (c .refused2 .ensures) (omega arith))
+    (λ c. input-short _ _ (omega arith) (c .refusal2 .ensures) (omega arith))
     (λ c κs. search needs)
     (λ c κs. search needs)
     steps-left-requires
