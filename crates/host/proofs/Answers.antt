@@ -206,20 +206,20 @@ file-small kind n k file t =
     let l : listLength kind n k ≤ 374662 = length-high kind n k (told-is n k _ refl t) in
     bounded-small (blocksFor (listLength kind n k)) _ (file-bounded kind n k file) (omega arith)
 
-module _ (n k : ℕ) (corridor demands words : List ℕ) where
-  then-check-small : toldFits n k ≡ true → Small (readThenCheck n k corridor demands words)
+module _ (n k : ℕ) (corridor demands recorded : List ℕ) where
+  then-check-small : toldFits n k ≡ true → Small (readThenCheck n k corridor demands recorded)
   unfolding readThenCheck filesAnswer
   then-check-small t =
-      small-orElse (filesAnswer n k corridor demands words) _
+      small-orElse (filesAnswer n k corridor demands recorded) _
       (small-orElse (fileAnswer Corridor n k corridor) _ (file-small Corridor n k corridor t)
-      (small-orElse (fileAnswer Demands n k demands) _ (file-small Demands n k demands t) (file-small Record n k words t)))
-      (check-small (corridorIn n corridor) (demandsIn n k demands) (recordIn recordWidth n k words))
+      (small-orElse (fileAnswer Demands n k demands) _ (file-small Demands n k demands t) (file-small Record n k recorded t)))
+      (check-small (corridorIn n corridor) (demandsIn n k demands) (recordIn recordWidth n k recorded))
 
-  pub check-files-small : Small (checkFiles n k corridor demands words)
+  pub check-files-small : Small (checkFiles n k corridor demands recorded)
   unfolding checkFiles
   check-files-small = sized-small (toldFits n k) _ then-check-small
 
-  pub convert-files-small : (room : ℕ) → Small (convertFiles n k corridor demands words room)
+  pub convert-files-small : (room : ℕ) → Small (convertFiles n k corridor demands recorded room)
   unfolding convertFiles
   convert-files-small room =
       sized-small (toldFits n k && eqb room (blocksFor (planLength n k) * 512)) _ (λ e. then-check-small (and-iff (toldFits n k) _ .0 e .0))
