@@ -12,7 +12,7 @@ ghost use Rattle.files.specs.Files.{demandsIn, recordIn};
 ghost use Rattle.files.specs.Fits.{Holds, FilesFit, Accepts, FilesKept};
 ghost use Rattle.normal.specs.Input.{linksIn, stepsIn, inputAnswer};
 ghost use Rattle.normal.specs.Fits.{statedCost};
-ghost use Rattle.normal.specs.Text.{decimal, spaced, planWord, refusedLine, headLine, settingLine, filesLine, planLine, printed};
+ghost use Rattle.normal.specs.Text.{decimal, spaced, refusedLine, headLine, settingLine, filesLine, planLine, printed};
 use crate::inner::input;
 use crate::inner::text;
 use files::inner::unpacked;
@@ -21,17 +21,26 @@ use lists::inner::words;
 use payload::inner::place;
 use settings::Setting;
 
+// A word and three numbers.
+fn put_numbers(word: &[u8], first: u64, second: u64, third: u64, out: &mut [u8]) -> usize
+    requires { ⌜ (length (now word) ≤ 8) × (length (now out) ≡ 128) ⌝ }
+    ensures { λ r. ⌜ take r (now (out .exit)) ≡ now (word .entry) ++ (spaced first ++ (spaced second ++ (spaced third ++ (10 ∷ [])))) ⌝ }
+    ensures { λ r. ⌜ Counts r (now (out .exit)) ⌝ }
+{
+    let a = text::put_text(out, 0, word);
+    let b = text::put_spaced(out, a, first);
+    let c = text::put_spaced(out, b, second);
+    let d = text::put_spaced(out, c, third);
+    text::put_byte(out, d, 10)
+}
+
 // A refusal.
 pub fn refused_line(number: u32, row: u32, node: u32, out: &mut [u8]) -> usize
     requires { ⌜ length (now out) ≡ 128 ⌝ }
     ensures { λ r. ⌜ take r (now (out .exit)) ≡ refusedLine number row node ⌝ }
     ensures { λ r. ⌜ Counts r (now (out .exit)) ⌝ }
 {
-    let first = text::put_text(out, 0, b"REFUSED");
-    let second = text::put_spaced(out, first, number as u64);
-    let third = text::put_spaced(out, second, row as u64);
-    let last = text::put_spaced(out, third, node as u64);
-    text::put_byte(out, last, 10)
+    put_numbers(b"REFUSED", number as u64, row as u64, node as u64, out)
 }
 
 // The answer to every input above 65,536 bytes.
@@ -55,19 +64,6 @@ fn stated_cost(links: usize, steps: usize, recorded: &[u8]) -> u64
     (high as u64) * 4294967296 + (low as u64)
 }
 
-// Steps, nodes and cost after PLAN.
-fn put_head(steps: u64, nodes: u64, total: u64, out: &mut [u8]) -> usize
-    requires { ⌜ length (now out) ≡ 128 ⌝ }
-    ensures { λ r. ⌜ take r (now (out .exit)) ≡ planWord ++ (spaced steps ++ (spaced nodes ++ (spaced total ++ (10 ∷ [])))) ⌝ }
-    ensures { λ r. ⌜ Counts r (now (out .exit)) ⌝ }
-{
-    let first = text::put_text(out, 0, b"PLAN");
-    let second = text::put_spaced(out, first, steps);
-    let third = text::put_spaced(out, second, nodes);
-    let last = text::put_spaced(out, third, total);
-    text::put_byte(out, last, 10)
-}
-
 // The first line of an accepted input.
 pub fn head_line(input: &[u8], out: &mut [u8]) -> usize
     requires { ⌜ inputAnswer (now input) ≡ Accepted ⌝ }
@@ -78,7 +74,7 @@ pub fn head_line(input: &[u8], out: &mut [u8]) -> usize
     let at = input::layout_in(input);
     let recorded = at.recorded;
     let total = stated_cost(at.links as usize, at.steps as usize, &input[recorded..]);
-    put_head(at.steps as u64, at.links as u64 + 1, total, out)
+    put_numbers(b"PLAN", at.steps as u64, at.links as u64 + 1, total, out)
 }
 
 // Step, identifier, rate, limit and the setting's letter.

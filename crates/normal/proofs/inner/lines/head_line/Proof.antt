@@ -6,6 +6,7 @@ use lib.ListN.{length}
 use borrow.Author.Needs.{needs}
 use Rattle.lists.specs.Words.{recordWidth, recordLength}
 use Rattle.files.specs.Fits.{Holds}
+use Rattle.normal.specs.Text.{planWord}
 use Rattle.normal.proofs.Input.{input-kept, in-order, lent}
 use Rattle.normal.proofs.Text.{head-told}
 use Rattle.normal.proofs.inner.lines.head_line.Statement.{statement}
@@ -22,12 +23,13 @@ stated-cost-requires c κs =
     (kept .told .linksHigh, kept .told .stepsHigh, kept .fit .recordHolds)
 
 returns : tie.Need-returns
+unfolding planWord
 returns c =
     let p = c .before .before in
-    let s = p .before .before .before .before in
+    let s = p .before .before .before .before .before in
     let l = s .before .before .before .before in
     let kept = input-kept _ (l .before .before .before .pre .0) in
-    (head-told _ kept _ (l .layout-in .ensures) _ _ (s .stated-cost .ensures) (p .put-head .ensures .0), p .put-head .ensures .1)
+    (head-told _ kept _ (l .layout-in .ensures) _ _ (s .stated-cost .ensures) (p .put-numbers .ensures .0), p .put-numbers .ensures .1)
 
 pub head-line-spec : {M : Type 1} → statement M
 head-line-spec =
@@ -40,6 +42,7 @@ head-line-spec =
     (λ c. let o = order (c .before .before) in omega arith)
     (λ c. search needs)
     stated-cost-requires
+    (λ c. search needs)
     (λ c. search needs)
     (λ c. search needs)
     (λ c. search needs)

@@ -1,33 +1,18 @@
--- The word, three numbers and a line feed, one after another.
+-- REFUSED and three numbers.
 use borrow.Author.Needs.{needs}
 use Rattle.normal.specs.Text.{refusedWord, refusedLine}
-use Rattle.normal.proofs.Text.{put-five}
 use Rattle.normal.proofs.inner.lines.refused_line.Statement.{statement}
 use Rattle.normal.proofs.inner.lines.refused_line.Tie as tie
 
 returns : tie.Need-returns
 unfolding refusedWord refusedLine
-returns c =
-    let e = c .before .before in
-    let d = e .before .before .before .before in
-    let x = d .before .before .before .before in
-    let b = x .before .before .before .before in
-    put-five _ _ _ _ _ _ _ _ _ _ _ _ _ _ _ _
-    (b .before .before .before .before .put-text .ensures)
-    (b .put-spaced .ensures .0)
-    (x .put-spaced2 .ensures .0)
-    (d .put-spaced3 .ensures .0)
-    (e .put-byte .ensures)
+returns c = c .before .before .put-numbers .ensures
 
 pub refused-line-spec : {M : Type 1} → statement M
 refused-line-spec =
     tie.close
     (tie.spec
     (λ c. search needs)
-    (λ c κs. search needs)
-    (λ c κs. search needs)
-    (λ c κs. search needs)
-    (λ c κs. search needs)
     (λ c κs. search needs)
     (λ c. search needs)
     returns)

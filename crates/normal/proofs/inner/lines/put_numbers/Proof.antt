@@ -1,12 +1,10 @@
 -- The word, three numbers and a line feed, one after another.
 use borrow.Author.Needs.{needs}
-use Rattle.normal.specs.Text.{planWord}
 use Rattle.normal.proofs.Text.{put-five}
-use Rattle.normal.proofs.inner.lines.put_head.Statement.{statement}
-use Rattle.normal.proofs.inner.lines.put_head.Tie as tie
+use Rattle.normal.proofs.inner.lines.put_numbers.Statement.{statement}
+use Rattle.normal.proofs.inner.lines.put_numbers.Tie as tie
 
 returns : tie.Need-returns
-unfolding planWord
 returns c =
     let e = c .before .before in
     let d = e .before .before .before .before in
@@ -19,11 +17,10 @@ returns c =
     (d .put-spaced3 .ensures .0)
     (e .put-byte .ensures)
 
-pub put-head-spec : {M : Type 1} → statement M
-put-head-spec =
+pub put-numbers-spec : {M : Type 1} → statement M
+put-numbers-spec =
     tie.close
     (tie.spec
-    (λ c. search needs)
     (λ c κs. search needs)
     (λ c κs. search needs)
     (λ c κs. search needs)
