@@ -26,7 +26,7 @@ impl fmt::Display for Verdict {
 }
 
 /// Words of errors that say that a fact was looked for and not found.
-const FACT: [&str; 7] = [
+const FACT: [&str; 8] = [
     "`search`: no proof of",
     // the same in a function that has no proof file
     "`search` does not close",
@@ -37,6 +37,8 @@ const FACT: [&str; 7] = [
     "`rw`: no occurrence of the path's",
     // two sides of an equation, compared late
     "does not hold (this comparison",
+    // the same, computed at once
+    "computed as far as they go, the two values are",
 ];
 
 /// Words of errors that say that code and proof no longer fit each other, whatever is true of the code.
@@ -172,6 +174,7 @@ mod tests {
             "proofs/inner/calls/told_fits/Proof.antt:9:13: error: `returns`: `rw`: no occurrence of the path's right endpoint in the goal",
             "proofs/inner/gives/Proof.antt:10:13: error: `returns`: give a proof of that as the last argument, `simp L t`\n  `simp` has no last argument, so what it leaves must be a path whose two ends are equal",
             "proofs/Rates.antt:40:54: error: `reaches-facts`: `reaches junction` ≟ `leb a b && leb c d`\n  does not hold (this comparison, made at this position, had to wait",
+            "proofs/sized/Proof.antt:7:63: error: `sized-spec`: computed as far as they go, the two values are `c .refusal .result` (found) and `Answer.refusal (unless fits 1) 0 0`",
             "fn lists::inner::words::node_word: no proof: expected `node-word-spec` in ./proofs/inner/words/node_word/Proof.antt; `search` does not close `returns`",
         ] {
             assert_eq!(judged(1, &format!("fn a: proved\n{error}\nlogic=not-proved\n")).0, Verdict::Fact, "{error}");
