@@ -8,10 +8,9 @@ use native.Mathlib.Omega.{arith}
 use lib.Arith.{digits-div, digits-mod}
 use Rattle.tables.specs.declared.Answer.{Answer}
 use Rattle.tables.specs.declared.Answer.the-variants.{Accepted, Refused}
-use mathlib.Core.Bool.{Bool, false}
-use Rattle.tables.specs.Answer.{isRefused, orElse, refusal, Small}
+use Rattle.tables.specs.Answer.{orElse, refusal, Small}
 use Rattle.tables.specs.First.{first, firstNode, firstPlace}
-use Rattle.tables.proofs.Answers.{Refuses, refuses-is, orElse-accepts, orElse-refuses, orElse-right, orElse-assoc, refusal-accepts, refusal-refuses, refusal-told, told-accepted, small-refusal, small-orElse}
+use Rattle.tables.proofs.Answers.{Refuses, refuses-is, orElse-accepts, orElse-refuses, orElse-right, orElse-assoc, refusal-accepts, refusal-refuses, small-refusal, small-orElse}
 
 -- ---- by one index
 
@@ -213,12 +212,6 @@ passed-next i n answer p l e =
 -- a is the answer as a call gave it
 pub passed-told : (i n : ℕ) (answer : ℕ → Answer) (a : Answer) → Passed i n answer → i < n → a ≡ answer i → a ≡ Accepted → Passed (i + 1) n answer
 passed-told i n answer a p l e h = passed-next i n answer p l (sym e ∙ h)
-
--- the same where a is made of a fault's number, v, and t is what the test of a answered
-pub passed-numbered : (i n row : ℕ) (fault : ℕ → ℕ) (v : ℕ) (a : Answer) (t : Bool) → Passed i n (λ j. refusal (fault j) row j) → i < n → v ≡ fault i
-    → a ≡ refusal v row i → t ≡ isRefused a → t ≡ false → Passed (i + 1) n (λ j. refusal (fault j) row j)
-passed-numbered i n row fault v a t p l e q h f =
-    passed-told i n (λ j. refusal (fault j) row j) a p l (refusal-told (fault i) v row i a q e) (told-accepted a t h f)
 
 pub passed-stop : (i n : ℕ) (answer : ℕ → Answer) (a : Answer) → Passed i n answer → i < n → a ≡ answer i → Refuses a → a ≡ first n answer
 passed-stop i n answer a p l e r =

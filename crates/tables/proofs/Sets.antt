@@ -3,7 +3,7 @@ use borrow.Author.Needs.{needs}
 use borrow.Author.Tests.{lt-ltb, le-ltb, le-leb, lt-leb, eq-eqb, ne-eqb}
 use Rattle.tables.proofs.Numbers.{width-same}
 use Rattle.tables.proofs.Answers.{refuses-is, told-refused, told-accepted, or-else-stop, or-else-next, refusal-told, refusal-none, refusal-some, refusal-same, left-refused, left-accepted}
-use Rattle.tables.proofs.First.{passed-begun, passed-next, passed-told, passed-numbered, passed-stop, passed-ended, first-agrees}
+use Rattle.tables.proofs.First.{passed-begun, passed-next, passed-told, passed-stop, passed-ended, first-agrees}
 use Rattle.tables.proofs.Part.{part-length}
 use Rattle.tables.proofs.Tabulate.{filled-begun, filled-stored, filled-ended, filled-copied}
 use Rattle.tables.proofs.Grid.{cell-same, placed-begun, placed-two, placed-four, placed-ended, rowed-begun, rowed-lent, rowed-words, rowed-ended, rowed-grid}
@@ -16,7 +16,7 @@ pub ruleset tests = (lt-ltb, le-ltb, le-leb, lt-leb, eq-eqb, ne-eqb)
 pub ruleset fills = (filled-begun, filled-stored, filled-ended, filled-copied)
 
 -- a loop that looks for the first refusal; `tt` is that a refusal refuses
-pub ruleset scans = (tt, passed-begun, passed-next, passed-told, passed-numbered, passed-stop, passed-ended, refusal-told, refusal-none, refusal-some, refusal-same, refuses-is, told-refused, told-accepted, first-agrees, part-length)
+pub ruleset scans = (tt, passed-begun, passed-next, passed-told, passed-stop, passed-ended, refusal-told, refusal-none, refusal-some, refusal-same, refuses-is, told-refused, told-accepted, first-agrees, part-length)
 
 -- one call, then another
 pub ruleset joins = (or-else-stop, or-else-next, told-refused, told-accepted)
