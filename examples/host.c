@@ -60,11 +60,30 @@ static uint32_t number(const char *text)
     return (uint32_t)value;
 }
 
-static int refused(const char *call, uint32_t answer)
+/* What 1 and 14 to 18 speak of: N or K, else the first of the three files that its reader refuses, else nothing here. */
+static const char *spoken_of(uint32_t n, uint32_t k, const struct bytes files[3])
+{
+    typedef uint32_t reader(uint32_t, uint32_t, const uint8_t *, size_t, uint32_t *, size_t);
+    static reader *const readers[3] = {gigorchid_read_corridor, gigorchid_read_demands, gigorchid_read_record};
+    static const char *const names[3] = {" (corridor)", " (demands)", " (record)"};
+    if (n < 1 || n > GIGORCHID_MOST_LINKS || k < 1 || k > GIGORCHID_MOST_STEPS)
+        return " (N or K)";
+    const size_t counts[3] = {GIGORCHID_CORRIDOR_WORDS(n), GIGORCHID_DEMANDS_WORDS(n, k), GIGORCHID_RECORD_WORDS(n, k)};
+    for (int i = 0; i < 3; i++) {
+        uint32_t *words = space(counts[i] * sizeof *words);
+        uint32_t answer = readers[i](n, k, files[i].at, files[i].count, words, counts[i]);
+        free(words);
+        if (answer != 0)
+            return names[i];
+    }
+    return "";
+}
+
+static int refused(const char *call, const char *of, uint32_t answer)
 {
     uint32_t refusal = GIGORCHID_REFUSAL(answer);
-    printf("%s: refused by %u at row %u, node %u: %s\n", call, refusal, GIGORCHID_ROW(answer), GIGORCHID_NODE(answer),
-           gigorchid_refusal_text(refusal));
+    printf("%s: refused by %u at row %u, node %u: %s%s\n", call, refusal, GIGORCHID_ROW(answer), GIGORCHID_NODE(answer),
+           gigorchid_refusal_text(refusal), of);
     return 1;
 }
 
@@ -76,7 +95,7 @@ static int print_plan(uint32_t n, uint32_t k, struct bytes plan)
     uint32_t answer = gigorchid_read_plan(n, k, plan.at, plan.count, words, count);
     if (answer != 0) {
         free(words);
-        return refused("plan", answer);
+        return refused("plan", "", answer);
     }
     for (uint32_t step = 0; step < k; step++)
         for (uint32_t node = 0; node <= n; node++) {
@@ -93,26 +112,24 @@ int main(int count, char **argument)
         stop("N K CORRIDOR DEMANDS RECORD [PLAN] are wanted, not", count > 1 ? argument[1] : "nothing");
     uint32_t n = number(argument[1]);
     uint32_t k = number(argument[2]);
-    struct bytes corridor = load(argument[3]);
-    struct bytes demands = load(argument[4]);
-    struct bytes record = load(argument[5]);
+    struct bytes files[3] = {load(argument[3]), load(argument[4]), load(argument[5])};
+    struct bytes corridor = files[0], demands = files[1], record = files[2];
 
     int status;
     uint32_t answer = gigorchid_check_files(n, k, corridor.at, corridor.count, demands.at, demands.count, record.at, record.count);
     if (answer != 0) {
-        status = refused("check", answer);
+        status = refused("check", spoken_of(n, k, files), answer);
     } else {
         size_t room = GIGORCHID_FILE_BYTES(GIGORCHID_PLAN_WORDS(n, k));
         struct bytes plan = {space(room), room};
         answer = gigorchid_convert_files(n, k, corridor.at, corridor.count, demands.at, demands.count, record.at, record.count, plan.at,
                                          plan.count);
-        status = answer != 0 ? refused("convert", answer) : print_plan(n, k, plan);
+        status = answer != 0 ? refused("convert", "", answer) : print_plan(n, k, plan);
         if (status == 0 && count == 7)
             store(argument[6], plan);
         free(plan.at);
     }
-    free(corridor.at);
-    free(demands.at);
-    free(record.at);
+    for (int i = 0; i < 3; i++)
+        free(files[i].at);
     return status;
 }

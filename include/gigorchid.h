@@ -1,18 +1,58 @@
-/* Gigorchid: simulator, checker, converter and normal form of freeway metering plans, for C and C++.
+/* Gigorchid: simulator, checker, converter and normal form of freeway metering plans, for C (C99 on) and C++ (C++11 on).
  *
- * Link with libhost.a, which `rt staticlib host` writes to target/staticlib.
+ * Link with libhost.a, which `rt staticlib host` writes to target/staticlib; of the C library it needs memcpy and memset. It is built for
+ * x86-64 Linux. docs/MODEL.md says what is computed; this header says all that a caller must know to call it.
  *
- * Every call takes slices: an address and a count of elements (words of 32 bits, bytes or nodes). The address is not null, even where the
- * count is 0, fits the element's type, and stays valid through the call; a slice that is written overlaps no other. Nothing else is asked: any
- * words, any bytes, any counts may be given, and each call answers.
+ * Slices. Every list is lent as an address and a count of its elements: words (uint32_t), bytes (uint8_t) or nodes (struct gigorchid_node).
+ *   - The address is not null, even where the count is 0, and is aligned for its elements: to 4 bytes for words and nodes, to any for bytes.
+ *     So words that stand inside a buffer of bytes are copied out first.
+ *   - The count may be any number of elements that really stand there, 0 among them. As of any object in C, they take at most PTRDIFF_MAX
+ *     bytes in all.
+ *   - The elements stay valid through the call. A slice that is not const overlaps no other of the call.
+ * Nothing else is asked: any words, any bytes and any counts may be given, and each call ends and answers.
  *
- * The answer is one number: 0 for accepted, else row x 65,536 + node x 256 + refusal number. The row is the step of 5, 6 and 8 to 12, the
- * state of 7, the block of 15 to 18; the node is that of 2 to 12; each is 0 elsewhere. A refusal leaves what is lent as it was, but for one: a
- * normal form refused by 12 has its work record filled.
+ * Answers. A call answers one number: 0 for accepted, else row x 65,536 + node x 256 + refusal number (below). A refusal leaves what was lent
+ * as it was, but for one: a normal form refused by 12 has its work record filled.
  *
- * The calls keep nothing between them, allocate nothing and need less than 64 KiB of stack: the tests make every call below, at 64 links
- * and 1,440 steps, in a thread created with a stack of 65,536 bytes (Linux, x86-64), of which about 60,000 are left where the call starts.
- * Several threads may call at once, as long as no slice that one writes is used by another.
+ * Threads. The calls keep nothing between them, allocate nothing and need less than 64 KiB of stack: the tests make every call below, at 64
+ * links and 1,440 steps, in a thread created with a stack of 65,536 bytes, of which about 60,000 are left where the call starts. Several
+ * threads may call at once, as long as no slice that one writes is used by another.
+ *
+ * ---- The corridor ----
+ *
+ * Links 1..N in the direction of travel, nodes 0..N; link i ends at node i, where an off-ramp leaves, and the on-ramp of node i feeds link
+ * i + 1. Node 0 has no link: its ramp is the mainline's entry. Node N has no ramp. Step k, of 0..K-1, leads from state k to state k + 1.
+ *
+ * ---- Words: unsigned 32-bit numbers in the machine's own order ----
+ *
+ *     letter  what                          unit                            range
+ *     N       links                                                         1..64
+ *     K       steps                                                         1..1,440
+ *     -       identifier of a node                                          not 0, each another
+ *     F       capacity of a link            1/64 vehicle per step           0..65,536
+ *     V       full speed of a link          1/65,536 of its length a step   1..65,536
+ *     W       wave speed of a link          1/65,536 of its length a step   1..65,536
+ *     J       jam: vehicles when full       1/64 vehicle                    1..65,536
+ *     C       capacity of a ramp            1/64 vehicle per step           0..65,536
+ *     L       queue limit of a ramp         1/64 vehicle                    0..134,217,728
+ *     n       vehicles on a link            1/64 vehicle                    at the start 0..J
+ *     l       queue of a ramp               1/64 vehicle                    at the start 0..L
+ *     Q       arrivals at a ramp            1/64 vehicle per step           0..65,536
+ *     b       split to the off-ramp         parts of 65,536                 0..65,536
+ *     rate    metering rate of a ramp       1/64 vehicle per step           0..C
+ *     limit   speed limit on a link         1/65,536 of its length a step   0..V
+ *     f       flow that leaves a link       1/64 vehicle per step           in a record
+ *     r       flow that leaves a ramp       1/64 vehicle per step           in a record
+ *     cost    sum of all n and l over states 1..K, in 1/64 vehicle times steps; its low 32 bits first, then its high ones
+ *
+ * ---- Lists: the order of their words ----
+ *
+ *     corridor  N, then for each node 0..N:                     identifier, F, V, W, J, C, L, n, l
+ *     demands   K, then for each step 0..K-1, each node 0..N:   Q, b
+ *     plan      for each step 0..K-1, each node 0..N:           rate, limit
+ *     record    for each state 0..K, each node 0..N:            n, l, f, r; then the cost, 2 words
+ *
+ * Fixed at zero: F, V, W, J, n, f, b and limit of node 0; C, L, l, r, Q, b and rate of node N; every f and r of state K.
  */
 #ifndef GIGORCHID_H
 #define GIGORCHID_H
@@ -20,73 +60,89 @@
 #include <stddef.h>
 #include <stdint.h>
 
+/* The version of this header and of the library that comes with it. */
+#define GIGORCHID_VERSION_MAJOR 0
+#define GIGORCHID_VERSION_MINOR 1
+#define GIGORCHID_VERSION_PATCH 0
+#define GIGORCHID_VERSION_TEXT "0.1.0"
+/* The three as one number, to compare: 10,000 x major + 100 x minor + patch. */
+#define GIGORCHID_VERSION (GIGORCHID_VERSION_MAJOR * 10000 + GIGORCHID_VERSION_MINOR * 100 + GIGORCHID_VERSION_PATCH)
+
 #ifdef __cplusplus
+#define GIGORCHID_CAST(type, value) static_cast<type>(value)
 extern "C" {
+#else
+#define GIGORCHID_CAST(type, value) ((type)(value))
 #endif
 
-/* How long the lists are, in words, for N links (1 to 64) and K steps (1 to 1,440), and how many bytes a file of so many words has. No other
- * length is taken. The longest lists, for 64 links and 1,440 steps:
+/* How many words each list has for N links and K steps, and how many bytes a file of so many words has. No other count is taken. The
+ * longest lists, for 64 links and 1,440 steps:
  *
  *              words     bytes of its file
  *     corridor     586       2,560
  *     demands  187,201     766,976
  *     plan     187,200     766,976
  *     record   374,662   1,534,976
- */
-#define GIGORCHID_CORRIDOR_WORDS(n) (1 + ((size_t)(n) + 1) * 9)
-#define GIGORCHID_DEMANDS_WORDS(n, k) (1 + (size_t)(k) * ((size_t)(n) + 1) * 2)
-#define GIGORCHID_PLAN_WORDS(n, k) ((size_t)(k) * ((size_t)(n) + 1) * 2)
-#define GIGORCHID_RECORD_WORDS(n, k) (((size_t)(k) + 1) * ((size_t)(n) + 1) * 4 + 2)
-#define GIGORCHID_FILE_BYTES(words) (((size_t)(words) + 124) / 125 * 512)
+ *
+ * A block of a file has GIGORCHID_BLOCK_BYTES bytes: 128 words, each with its low byte first. Word 0 is the file's kind (1 corridor, 2
+ * demands, 3 record, 4 plan), word 1 the block's number from 0, words 2..126 the list's next 125 words, zeros after its end, and word 127
+ * the sum of (2 j + 1) x word j over j = 0..126, modulo 2^32. */
+#define GIGORCHID_MOST_LINKS 64
+#define GIGORCHID_MOST_STEPS 1440
+#define GIGORCHID_CORRIDOR_WORDS(n) (1 + (GIGORCHID_CAST(size_t, n) + 1) * 9)
+#define GIGORCHID_DEMANDS_WORDS(n, k) (1 + GIGORCHID_CAST(size_t, k) * (GIGORCHID_CAST(size_t, n) + 1) * 2)
+#define GIGORCHID_PLAN_WORDS(n, k) (GIGORCHID_CAST(size_t, k) * (GIGORCHID_CAST(size_t, n) + 1) * 2)
+#define GIGORCHID_RECORD_WORDS(n, k) ((GIGORCHID_CAST(size_t, k) + 1) * (GIGORCHID_CAST(size_t, n) + 1) * 4 + 2)
+#define GIGORCHID_BLOCK_BYTES 512
+#define GIGORCHID_FILE_BYTES(words) ((GIGORCHID_CAST(size_t, words) + 124) / 125 * GIGORCHID_BLOCK_BYTES)
 
-/* The parts of an answer. */
-#define GIGORCHID_REFUSAL(answer) ((uint32_t)(answer) & 255)
-#define GIGORCHID_NODE(answer) ((uint32_t)(answer) >> 8 & 255)
-#define GIGORCHID_ROW(answer) ((uint32_t)(answer) >> 16)
+/* The parts of an answer. The row is the step of 5, 6 and 8 to 12, the state of 7, the block of 15 to 18, and 0 elsewhere; the node is that
+ * of 2 to 12, and 0 elsewhere. */
+#define GIGORCHID_REFUSAL(answer) (GIGORCHID_CAST(uint32_t, answer) & 255)
+#define GIGORCHID_NODE(answer) (GIGORCHID_CAST(uint32_t, answer) >> 8 & 255)
+#define GIGORCHID_ROW(answer) (GIGORCHID_CAST(uint32_t, answer) >> 16)
 
-/* A refusal number in words. */
+/* The refusals: name, number, text. In the texts T(f) is what of f goes on past the off-ramp, S what link i + 1 can take in, and
+ * n x V / 65,536 is rounded down. Of several that are due, 1 to 7 are given in number order, each over its whole input at its first place by
+ * row, then node; then 8 to 12 by step, node and number; 13 last. */
+#define GIGORCHID_REFUSALS(ENTRY)                                                                                                           \
+    ENTRY(GIGORCHID_ACCEPTED, 0, "accepted")                                                                                                \
+    ENTRY(GIGORCHID_BAD_LENGTH, 1, "N, K or the length of a list or of a lent output is wrong")                                             \
+    ENTRY(GIGORCHID_BAD_LINK, 2, "F, V, W or J of the node is out of range, or not zero at node 0")                                         \
+    ENTRY(GIGORCHID_BAD_RAMP, 3, "the node's identifier is zero or repeated, or its C or L is out of range, or not zero at node N")         \
+    ENTRY(GIGORCHID_BAD_START, 4, "the node starts with n above J or l above L, or not zero at node 0 or N")                                \
+    ENTRY(GIGORCHID_BAD_DEMAND, 5, "Q or b is out of range, or not zero where it is fixed")                                                 \
+    ENTRY(GIGORCHID_BAD_PLAN, 6, "the plan's rate is above C or its limit above V")                                                         \
+    ENTRY(GIGORCHID_BAD_FIXED_WORD, 7, "the record's state 0 is not the corridor's start, or a word fixed at zero is not zero")             \
+    ENTRY(GIGORCHID_BAD_SENDING, 8, "f is more than the link can send: above n x V / 65,536 or above F")                                    \
+    ENTRY(GIGORCHID_BAD_MERGE, 9, "T(f) + r is more than the next link can take in: above S")                                               \
+    ENTRY(GIGORCHID_BAD_RAMP_FLOW, 10, "r is above the queue or above C")                                                                   \
+    ENTRY(GIGORCHID_BAD_NEXT_STATE, 11, "n or l of the next state is not what the flows make of it")                                        \
+    ENTRY(GIGORCHID_BAD_QUEUE, 12, "the next queue is above its limit L")                                                                   \
+    ENTRY(GIGORCHID_BAD_COST, 13, "the cost is not the sum of all n and l over states 1..K")                                                \
+    ENTRY(GIGORCHID_BAD_FILE_LENGTH, 14, "bytes of the file are missing or left over")                                                      \
+    ENTRY(GIGORCHID_BAD_CHECK_WORD, 15, "the block's check word is wrong")                                                                  \
+    ENTRY(GIGORCHID_BAD_KIND, 16, "the block's kind is wrong")                                                                              \
+    ENTRY(GIGORCHID_BAD_BLOCK_NUMBER, 17, "the block's number is wrong")                                                                    \
+    ENTRY(GIGORCHID_BAD_PADDING, 18, "the block's padding is not zero")
+
+#define GIGORCHID_ENUMERATOR(name, number, text) name = number,
+enum gigorchid_refusal { GIGORCHID_REFUSALS(GIGORCHID_ENUMERATOR) };
+#undef GIGORCHID_ENUMERATOR
+
+/* The text of a refusal number, of GIGORCHID_REFUSAL(answer). */
 static inline const char *gigorchid_refusal_text(uint32_t number)
 {
-    static const char *const text[] = {
-        "accepted",
-        "N, K or a list's length is wrong",
-        "F, V, W or J is out of range, or not zero at node 0",
-        "an identifier is zero or repeated, or C or L is out of range, or not zero at node N",
-        "a start is n > J or l > L, or not zero at node 0 or N",
-        "Q or b is out of range, or not zero where fixed",
-        "the plan is out of bounds",
-        "state 0 is not the corridor's, or a fixed zero is not zero",
-        "f is too large",
-        "T(f) + r is above S",
-        "r is above the queue or the ramp's capacity",
-        "the next n or l is wrong",
-        "the next queue is above its limit",
-        "the cost is wrong",
-        "bytes are missing or left over",
-        "a block's check word is wrong",
-        "a block's kind is wrong",
-        "a block's number is wrong",
-        "the padding is not zero",
-    };
-    return number < sizeof text / sizeof text[0] ? text[number] : "no refusal of this paper";
+    switch (number) {
+#define GIGORCHID_CASE(name, number, text) \
+    case name:                             \
+        return text;
+        GIGORCHID_REFUSALS(GIGORCHID_CASE)
+#undef GIGORCHID_CASE
+    default:
+        return "unknown refusal number (a whole answer is taken apart by GIGORCHID_REFUSAL first)";
+    }
 }
-
-/* ---- block files: told N and K, the bytes stay where they are ---- */
-
-/* Reads corridor, demands and record in turn and checks the record: 1 for a bad N or K, then 14 to 18 and 1 of each file, then as
- * gigorchid_check_words. */
-uint32_t gigorchid_check_files(uint32_t n, uint32_t k,
-                               const uint8_t *corridor, size_t corridor_bytes,
-                               const uint8_t *demands, size_t demands_bytes,
-                               const uint8_t *record, size_t record_bytes);
-
-/* The same, and writes the file of the plan that has the record. `plan` has GIGORCHID_FILE_BYTES(GIGORCHID_PLAN_WORDS(n, k)) bytes, else 1;
- * it is written only where the answer is 0. */
-uint32_t gigorchid_convert_files(uint32_t n, uint32_t k,
-                                 const uint8_t *corridor, size_t corridor_bytes,
-                                 const uint8_t *demands, size_t demands_bytes,
-                                 const uint8_t *record, size_t record_bytes,
-                                 uint8_t *plan, size_t plan_bytes);
 
 /* ---- word lists: N and K are the first words of corridor and demands ---- */
 
@@ -96,19 +152,22 @@ uint32_t gigorchid_simulate_words(const uint32_t *corridor, size_t corridor_word
                                   const uint32_t *plan, size_t plan_words,
                                   uint32_t *record, size_t record_words);
 
-/* Checks a proposed record; refused by 1 to 5 and 7 to 13. */
+/* Checks a proposed record: accepted exactly where some plan within bounds has it and keeps every queue within its limit; refused by 1 to 5
+ * and 7 to 13. */
 uint32_t gigorchid_check_words(const uint32_t *corridor, size_t corridor_words,
                                const uint32_t *demands, size_t demands_words,
                                const uint32_t *record, size_t record_words);
 
-/* The same, and fills `plan` with the plan that has the record. */
+/* The same, and fills `plan` with a plan that has the record: of each node at each step the smallest rate at full speed that gives its
+ * flows, or, where none does, the rate r and the smallest limit that sends f. */
 uint32_t gigorchid_convert_words(const uint32_t *corridor, size_t corridor_words,
                                  const uint32_t *demands, size_t demands_words,
                                  const uint32_t *record, size_t record_words,
                                  uint32_t *plan, size_t plan_words);
 
-/* Simulates the plan into `work` and fills `normal` with its normal form; refused by 1 to 6, and by 12, which leaves the plan's record in
- * `work`. Two valid plans have the same normal form exactly when they have the same record. */
+/* Simulates the plan into `work`, which has a record's words, and fills `normal` with the converter's plan for that record, the plan's
+ * normal form; refused by 1 to 6, and by 12, which leaves the plan's record in `work`. Two plans that keep every queue within its limit have
+ * the same normal form exactly when they have the same record. */
 uint32_t gigorchid_normal_words(const uint32_t *corridor, size_t corridor_words,
                                 const uint32_t *demands, size_t demands_words,
                                 const uint32_t *plan, size_t plan_words,
@@ -117,7 +176,7 @@ uint32_t gigorchid_normal_words(const uint32_t *corridor, size_t corridor_words,
 
 /* ---- the corridor as a list of nodes: N is their count less one, 2 to 65 of them, else 1 ---- */
 
-/* Link i ends at node i, and the ramp of node i feeds link i + 1. Node 0 has no link, and node N no ramp: their values are zero. */
+/* The words of a node in a corridor's list, in their order. */
 struct gigorchid_node {
     uint32_t identifier;
     uint32_t capacity;       /* F */
@@ -151,7 +210,8 @@ uint32_t gigorchid_normal_nodes(const struct gigorchid_node *corridor, size_t no
 /* ---- files to words and back, told N and K ----
  *
  * A reader answers 1 for a bad N or K or a wrong count of words, then 14, then 15, 16, 17 block by block, then 18, then 1 if the file's own N or
- * K differs; row counts blocks. A writer answers 1 for a bad N or K, a wrong count of bytes or words, or a list whose own N or K differs. */
+ * K, the first word of a corridor and of demands, is another. A writer answers 1 for a bad N or K, a wrong count of bytes or words, or a list
+ * whose own N or K is another; it tests no other word. */
 uint32_t gigorchid_read_corridor(uint32_t n, uint32_t k, const uint8_t *file, size_t bytes, uint32_t *words, size_t count);
 uint32_t gigorchid_read_demands(uint32_t n, uint32_t k, const uint8_t *file, size_t bytes, uint32_t *words, size_t count);
 uint32_t gigorchid_read_record(uint32_t n, uint32_t k, const uint8_t *file, size_t bytes, uint32_t *words, size_t count);
@@ -160,6 +220,24 @@ uint32_t gigorchid_write_corridor(uint32_t n, uint32_t k, const uint32_t *words,
 uint32_t gigorchid_write_demands(uint32_t n, uint32_t k, const uint32_t *words, size_t count, uint8_t *file, size_t bytes);
 uint32_t gigorchid_write_record(uint32_t n, uint32_t k, const uint32_t *words, size_t count, uint8_t *file, size_t bytes);
 uint32_t gigorchid_write_plan(uint32_t n, uint32_t k, const uint32_t *words, size_t count, uint8_t *file, size_t bytes);
+
+/* ---- checker and converter on block files, told N and K: the bytes stay where they are ----
+ *
+ * They answer 1 for a bad N or K or a wrong count of plan bytes, then what the readers of corridor, demands and record answer in turn, then
+ * what the call on words answers. So 14 to 18 do not tell which file they speak of, and 1 may speak of N, K, plan_bytes or a file. To learn it,
+ * look at N, K and plan_bytes first, then call the three readers in this order: the first that refuses has the file, and its answer is the
+ * same number (examples/host.c does so). */
+uint32_t gigorchid_check_files(uint32_t n, uint32_t k,
+                               const uint8_t *corridor, size_t corridor_bytes,
+                               const uint8_t *demands, size_t demands_bytes,
+                               const uint8_t *record, size_t record_bytes);
+
+/* Writes the plan's file, of GIGORCHID_FILE_BYTES(GIGORCHID_PLAN_WORDS(n, k)) bytes. */
+uint32_t gigorchid_convert_files(uint32_t n, uint32_t k,
+                                 const uint8_t *corridor, size_t corridor_bytes,
+                                 const uint8_t *demands, size_t demands_bytes,
+                                 const uint8_t *record, size_t record_bytes,
+                                 uint8_t *plan, size_t plan_bytes);
 
 #ifdef __cplusplus
 }

@@ -8,12 +8,14 @@ bash .ci/tools.sh
 rt staticlib host
 work=$(mktemp -d)
 trap 'rm -rf "$work"' EXIT
+library=target/staticlib/libhost.a
 strict=(-Wall -Wextra -Wpedantic -Werror -Iinclude)
 
-printf '#include "gigorchid.h"\nint main() { return gigorchid_refusal_text(0) == nullptr; }\n' > "$work/header.cc"
-g++ -std=c++11 "${strict[@]}" "$work/header.cc" -o "$work/header"
-"$work/header"
-library=target/staticlib/libhost.a
+for standard in c++11 c++20; do
+    g++ -std=$standard "${strict[@]}" -Wconversion -Wsign-conversion -Wshadow -Wold-style-cast -Wzero-as-null-pointer-constant \
+        examples/header.cc $library -o "$work/header"
+    "$work/header"
+done
 checks=(-g -fsanitize=address,undefined -fno-sanitize-recover=all)
 gcc -std=c11 -O2 "${strict[@]}" examples/calls.c $library -o "$work/calls"
 gcc -std=c11 "${checks[@]}" "${strict[@]}" examples/calls.c $library -o "$work/calls_checked"
@@ -52,8 +54,10 @@ refused() {
     fi
 }
 head -c 511 $b/demands.blocks > "$work/cut.blocks"
-refused 'refused by 16 at row 0' 2 1 $b/corridor.blocks $b/demands.blocks "$work/plan.blocks"
-refused 'refused by 14 at row 0' 2 1 $b/corridor.blocks "$work/cut.blocks" $b/case1.blocks
-refused 'refused by 14 at row 0' 2 1 $b/corridor.blocks /dev/null $b/case1.blocks
-refused 'refused by 1 at row 0' 0 1 $b/corridor.blocks $b/demands.blocks $b/case1.blocks
+refused 'refused by 16 at row 0, node 0: .* (record)$' 2 1 $b/corridor.blocks $b/demands.blocks "$work/plan.blocks"
+refused 'refused by 16 at row 0, node 0: .* (corridor)$' 2 1 $b/demands.blocks $b/demands.blocks $b/case1.blocks
+refused 'refused by 14 at row 0, node 0: .* (demands)$' 2 1 $b/corridor.blocks "$work/cut.blocks" $b/case1.blocks
+refused 'refused by 14 at row 0, node 0: .* (demands)$' 2 1 $b/corridor.blocks /dev/null $b/case1.blocks
+refused 'refused by 1 at row 0, node 0: .* (corridor)$' 3 1 $b/corridor.blocks $b/demands.blocks $b/case1.blocks
+refused 'refused by 1 at row 0, node 0: .* (N or K)$' 0 1 $b/corridor.blocks $b/demands.blocks $b/case1.blocks
 echo "the C examples agree with document 01"

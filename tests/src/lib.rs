@@ -9,6 +9,7 @@ pub mod examples;
 pub mod host;
 pub mod limits;
 pub mod model;
+pub mod pages;
 #[cfg(feature = "program")]
 pub mod program;
 pub mod properties;

@@ -1,0 +1,55 @@
+// The header in C++, under the warnings that C++ programmers turn on: every macro, the enum with its texts, and one call. It prints nothing
+// and ends with status 0 where all is as the header says.
+#include "gigorchid.h"
+
+#include <cstdio>
+#include <cstring>
+
+static_assert(GIGORCHID_CORRIDOR_WORDS(GIGORCHID_MOST_LINKS) == 586, "corridor");
+static_assert(GIGORCHID_DEMANDS_WORDS(GIGORCHID_MOST_LINKS, GIGORCHID_MOST_STEPS) == 187201, "demands");
+static_assert(GIGORCHID_PLAN_WORDS(GIGORCHID_MOST_LINKS, GIGORCHID_MOST_STEPS) == 187200, "plan");
+static_assert(GIGORCHID_RECORD_WORDS(GIGORCHID_MOST_LINKS, GIGORCHID_MOST_STEPS) == 374662, "record");
+static_assert(GIGORCHID_FILE_BYTES(586) == 2560, "file of a corridor");
+static_assert(GIGORCHID_FILE_BYTES(187201) == 766976, "file of demands");
+static_assert(GIGORCHID_FILE_BYTES(187200) == 766976, "file of a plan");
+static_assert(GIGORCHID_FILE_BYTES(374662) == 1534976, "file of a record");
+static_assert(GIGORCHID_FILE_BYTES(125) == GIGORCHID_BLOCK_BYTES && GIGORCHID_FILE_BYTES(126) == 2 * GIGORCHID_BLOCK_BYTES, "full block");
+static_assert(sizeof(gigorchid_node) == 9 * sizeof(uint32_t), "a node has nine words");
+
+// The version's text has its three numbers.
+static bool version_agrees()
+{
+    char text[40];
+    std::snprintf(text, sizeof text, "%d.%d.%d", GIGORCHID_VERSION_MAJOR, GIGORCHID_VERSION_MINOR, GIGORCHID_VERSION_PATCH);
+    return std::strcmp(text, GIGORCHID_VERSION_TEXT) == 0;
+}
+
+// Numbers 0 to 18 have a text each, and 19 has that of an unknown one.
+static bool texts_differ()
+{
+    for (uint32_t one = 0; one <= GIGORCHID_BAD_PADDING + 1; one++)
+        for (uint32_t other = 0; other < one; other++)
+            if (std::strcmp(gigorchid_refusal_text(one), gigorchid_refusal_text(other)) == 0)
+                return false;
+    return std::strncmp(gigorchid_refusal_text(GIGORCHID_BAD_PADDING + 1), "unknown refusal number", 22) == 0
+        && std::strcmp(gigorchid_refusal_text(GIGORCHID_ACCEPTED), "accepted") == 0;
+}
+
+// One link for one step whose queue, of 5, ends above its limit of 4: 12 at step 0 and node 0, with the work record filled.
+static bool answer_taken_apart()
+{
+    const gigorchid_node corridor[] = {{7, 0, 0, 0, 0, 9, 4, 0, 4}, {8, 100, 65536, 65536, 100, 0, 0, 0, 0}};
+    const uint32_t demands[GIGORCHID_DEMANDS_WORDS(1, 1)] = {1, 1, 0, 0, 0};
+    const uint32_t plan[GIGORCHID_PLAN_WORDS(1, 1)] = {0, 0, 0, 65536};
+    uint32_t work[GIGORCHID_RECORD_WORDS(1, 1)] = {}, normal[GIGORCHID_PLAN_WORDS(1, 1)] = {9, 9, 9, 9};
+    uint32_t answer = gigorchid_normal_nodes(corridor, 2, demands, GIGORCHID_DEMANDS_WORDS(1, 1), plan, GIGORCHID_PLAN_WORDS(1, 1), work,
+                                             GIGORCHID_RECORD_WORDS(1, 1), normal, GIGORCHID_PLAN_WORDS(1, 1));
+    uint32_t high = 3 * 65536 + 2 * 256 + GIGORCHID_BAD_MERGE;
+    return GIGORCHID_REFUSAL(answer) == GIGORCHID_BAD_QUEUE && GIGORCHID_NODE(answer) == 0 && GIGORCHID_ROW(answer) == 0 && work[9] == 5
+        && normal[0] == 9 && GIGORCHID_REFUSAL(high) == GIGORCHID_BAD_MERGE && GIGORCHID_NODE(high) == 2 && GIGORCHID_ROW(high) == 3;
+}
+
+int main()
+{
+    return version_agrees() && texts_differ() && answer_taken_apart() ? 0 : 1;
+}

@@ -1,0 +1,116 @@
+//! What readers see is true: quoted passages stand in their files, the worked lists of the model
+//! page are what the calls compute, page and header say the same, links and names lead somewhere.
+
+use std::collections::BTreeSet;
+use tests::calls::{Program, WordCalls};
+use tests::host::Host;
+use tests::model::Quick;
+use tests::pages::{
+    all_text, header_refusals, links, names, pages, passage, passages, rows, single_spaced,
+    text_of, top,
+};
+use tests::program::Executable;
+
+#[test]
+fn quoted_passages_stand_in_their_files() {
+    let quoted = passages(&text_of("docs/READING.md"));
+    assert!(quoted.len() >= 2, "nothing is quoted");
+    for passage in quoted {
+        let (_language, path) = passage.label.split_once(' ').expect("a language and a path");
+        let file = format!("\n{}", text_of(path));
+        assert!(file.contains(&format!("\n{}", passage.text)), "not in {path}:\n{}", passage.text);
+    }
+}
+
+/// The words of a labelled passage of the model page.
+fn words(name: &str) -> Vec<u32> {
+    let text = passage(&text_of("docs/MODEL.md"), &format!("words {name}"));
+    text.split_whitespace().map(|word| word.parse().expect("a word")).collect()
+}
+
+#[test]
+fn worked_lists_are_what_the_calls_compute() {
+    let [corridor, demands, plan] = ["corridor", "demands", "plan"].map(words);
+    let (record, normal_form) = (words("record"), words("normal form"));
+    for side in [&Quick as &dyn WordCalls, &Host] {
+        let mut work = vec![u32::MAX; record.len()];
+        let mut normal = vec![u32::MAX; plan.len()];
+        assert_eq!(side.simulate(&corridor, &demands, &plan, &mut work), 0);
+        assert_eq!(work, record);
+        assert_eq!(side.convert(&corridor, &demands, &record, &mut normal), 0);
+        assert_eq!(normal, normal_form);
+        (work.fill(u32::MAX), normal.fill(u32::MAX));
+        assert_eq!(side.normal(&corridor, &demands, &plan, &mut work, &mut normal), 0);
+        assert_eq!((work, normal), (record.clone(), normal_form.clone()));
+    }
+}
+
+#[test]
+fn printed_lines_are_what_the_program_prints() {
+    let page = text_of("docs/MODEL.md");
+    let file = |name: &str| {
+        let path = top().join("examples/b").join(format!("{name}.blocks"));
+        std::fs::read(path).expect("the example is there")
+    };
+    for case in ["case1", "case5"] {
+        let input = [file("corridor"), file("demands"), file(case)].concat();
+        let printed = Executable::new().print(&input);
+        assert_eq!(String::from_utf8_lossy(&printed), passage(&page, &format!("printed {case}")));
+    }
+}
+
+/// The rows of five cells that begin with a number are the refusals.
+#[test]
+fn page_and_header_have_the_same_refusals() {
+    let (page, header) = (text_of("docs/MODEL.md"), text_of("include/gigorchid.h"));
+    let table = rows(&page).into_iter().filter(|row| row.len() == 5);
+    let table = table.filter_map(|row| Some((row[0].parse().ok()?, row[1].replace('×', "x"))));
+    let in_page: Vec<(u32, String)> =
+        [(0, "accepted".to_string())].into_iter().chain(table).collect();
+    let in_header: Vec<(u32, String)> = header_refusals(&header)
+        .into_iter()
+        .map(|(number, text)| (number, text.to_string()))
+        .collect();
+    assert_eq!(in_page.len(), 19);
+    assert_eq!(in_page, in_header);
+}
+
+#[test]
+fn page_and_header_have_the_same_order_of_words() {
+    let (page, header) = (text_of("docs/MODEL.md"), text_of("include/gigorchid.h"));
+    let header: Vec<String> =
+        header.lines().map(|line| single_spaced(line.trim_start_matches([' ', '*']))).collect();
+    for list in ["corridor", "demands", "plan", "record"] {
+        let table = rows(&page);
+        let row = table.iter().find(|row| row[0] == list).expect("a row for the list");
+        assert!(header.contains(&format!("{list} {}", row[1])), "{list}: {}", row[1]);
+    }
+}
+
+#[test]
+fn links_lead_somewhere() {
+    let mut followed = 0;
+    for page in pages() {
+        let text = text_of(&page);
+        let folder = top().join(&page);
+        for link in links(&text) {
+            let target = folder.parent().expect("a folder").join(link);
+            assert!(target.exists(), "{page}: {link}");
+            followed += 1;
+        }
+    }
+    assert!(followed > 5, "only {followed} links");
+}
+
+/// Every name that PROMISES quotes stands in the code, the tests, the header or a file's name.
+#[test]
+fn promised_names_exist() {
+    let page = text_of("docs/PROMISES.md");
+    let plain = |c: char| c.is_ascii_alphanumeric() || c == '-' || c == '_';
+    let code = ["crates", "tests", "include", "examples"].map(all_text).concat();
+    let known: BTreeSet<&str> = code.split(|c| !plain(c)).collect();
+    let missing: Vec<&str> =
+        names(&page).into_iter().filter(|name| !known.contains(name)).collect();
+    assert!(names(&page).len() > 200, "the page quotes hardly any name");
+    assert_eq!(missing, Vec::<&str>::new());
+}
