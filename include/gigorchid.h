@@ -1,48 +1,49 @@
 /* Gigorchid: simulator, checker, converter and normal form of freeway metering plans, for C (C99 on) and C++ (C++11 on).
  *
- * Link with libhost.a, which `rt staticlib host` writes to target/staticlib; of the C library it needs memcpy and memset. It is built for
- * x86-64 Linux. docs/MODEL.md says what is computed; this header says all that a caller must know to call it.
+ * Link with libhost.a, which `rt staticlib host` makes of the Gigorchid sources (cc host.c libhost.a); of the C library it needs memcpy and
+ * memset. It is built for x86-64 Linux. This header says all that a caller must know; docs/MODEL.md of the sources says it at length.
  *
  * Slices. Every list is lent as an address and a count of its elements: words (uint32_t), bytes (uint8_t) or nodes (struct gigorchid_node).
  *   - The address is not null, even where the count is 0, and is aligned for its elements: to 4 bytes for words and nodes, to any for bytes.
  *     So words that stand inside a buffer of bytes are copied out first.
  *   - The count may be any number of elements that really stand there, 0 among them. As of any object in C, they take at most PTRDIFF_MAX
  *     bytes in all.
- *   - The elements stay valid through the call. A slice that is not const overlaps no other of the call.
+ *   - The elements stay valid through the call. A slice that is not const overlaps no other of the call: nothing is read or written in place.
+ *     What it holds before the call does not matter.
  * Nothing else is asked: any words, any bytes and any counts may be given, and each call ends and answers.
  *
  * Answers. A call answers one number: 0 for accepted, else row x 65,536 + node x 256 + refusal number (below). A refusal leaves what was lent
  * as it was, but for one: a normal form refused by 12 has its work record filled.
  *
- * Threads. The calls keep nothing between them, allocate nothing and need less than 64 KiB of stack: the tests make every call below, at 64
- * links and 1,440 steps, in a thread created with a stack of 65,536 bytes, of which about 60,000 are left where the call starts. Several
- * threads may call at once, as long as no slice that one writes is used by another.
+ * Threads. The calls keep nothing between them, allocate nothing and need less than 64 KiB of stack: the tests make each of them, at 64 links
+ * and 1,440 steps, in a thread that has so much. Several threads may call at once, as long as no slice that one writes is used by another.
  *
  * ---- The corridor ----
  *
- * Links 1..N in the direction of travel, nodes 0..N; link i ends at node i, where an off-ramp leaves, and the on-ramp of node i feeds link
- * i + 1. Node 0 has no link: its ramp is the mainline's entry. Node N has no ramp. Step k, of 0..K-1, leads from state k to state k + 1.
+ * Links 1..N in the direction of travel, nodes 0..N. Link i ends at node i, where an off-ramp leaves; then the on-ramp of node i feeds link
+ * i + 1. Node 0 has no link and no off-ramp: its on-ramp is the mainline's entry. Node N has no ramp of either kind. Step k, of 0..K-1, leads
+ * from state k to state k + 1.
  *
  * ---- Words: unsigned 32-bit numbers in the machine's own order ----
  *
- *     letter  what                          unit                            range
+ *     letter  what                          unit                            range, but 0 where fixed at zero (below)
  *     N       links                                                         1..64
  *     K       steps                                                         1..1,440
- *     -       identifier of a node                                          not 0, each another
+ *     -       identifier of a node                                          not 0, and no two alike
  *     F       capacity of a link            1/64 vehicle per step           0..65,536
  *     V       full speed of a link          1/65,536 of its length a step   1..65,536
  *     W       wave speed of a link          1/65,536 of its length a step   1..65,536
  *     J       jam: vehicles when full       1/64 vehicle                    1..65,536
- *     C       capacity of a ramp            1/64 vehicle per step           0..65,536
- *     L       queue limit of a ramp         1/64 vehicle                    0..134,217,728
- *     n       vehicles on a link            1/64 vehicle                    at the start 0..J
- *     l       queue of a ramp               1/64 vehicle                    at the start 0..L
- *     Q       arrivals at a ramp            1/64 vehicle per step           0..65,536
+ *     C       capacity of an on-ramp        1/64 vehicle per step           0..65,536
+ *     L       queue limit of an on-ramp     1/64 vehicle                    0..134,217,728
+ *     n       vehicles on a link            1/64 vehicle                    in the corridor, as the start, 0..J
+ *     l       queue of an on-ramp           1/64 vehicle                    in the corridor, as the start, 0..L
+ *     Q       arrivals at an on-ramp        1/64 vehicle per step           0..65,536
  *     b       split to the off-ramp         parts of 65,536                 0..65,536
- *     rate    metering rate of a ramp       1/64 vehicle per step           0..C
+ *     rate    metering rate of an on-ramp   1/64 vehicle per step           0..C
  *     limit   speed limit on a link         1/65,536 of its length a step   0..V
  *     f       flow that leaves a link       1/64 vehicle per step           in a record
- *     r       flow that leaves a ramp       1/64 vehicle per step           in a record
+ *     r       flow that leaves an on-ramp   1/64 vehicle per step           in a record
  *     cost    sum of all n and l over states 1..K, in 1/64 vehicle times steps; its low 32 bits first, then its high ones
  *
  * ---- Lists: the order of their words ----
@@ -52,7 +53,17 @@
  *     plan      for each step 0..K-1, each node 0..N:           rate, limit
  *     record    for each state 0..K, each node 0..N:            n, l, f, r; then the cost, 2 words
  *
+ * At node i F, V, W, J, n, f and limit are those of link i; C, L, l, r, Q and rate those of its on-ramp; b that of its off-ramp.
  * Fixed at zero: F, V, W, J, n, f, b and limit of node 0; C, L, l, r, Q, b and rate of node N; every f and r of state K.
+ *
+ * ---- A step, at node i; every quotient is rounded down ----
+ *
+ *     1  sending       D = min(n x limit / 65,536, F)                       of link i; 0 at node 0
+ *     2  through part  T(x) = x - x x b / 65,536                            the rest leaves by the off-ramp
+ *     3  offer         d = min(l, C, rate)                                  of the on-ramp; 0 at node N
+ *     4  receiving     S = min(F, W x (J - n) / 65,536)                     all of link i + 1
+ *     5  merge         R = T(D) + d; where R <= S, and at node N, f = D and r = d; else f = D x S / R and r = d x S / R
+ *     6  next state    link i + 1 gains T(f) + r, link i loses its f, and l becomes l + Q - r; all nodes at once
  */
 #ifndef GIGORCHID_H
 #define GIGORCHID_H
@@ -60,7 +71,7 @@
 #include <stddef.h>
 #include <stdint.h>
 
-/* The version of this header and of the library that comes with it. */
+/* The version of this header and of the library that comes with it; the library itself does not tell. */
 #define GIGORCHID_VERSION_MAJOR 0
 #define GIGORCHID_VERSION_MINOR 1
 #define GIGORCHID_VERSION_PATCH 0
@@ -68,6 +79,7 @@
 /* The three as one number, to compare: 10,000 x major + 100 x minor + patch. */
 #define GIGORCHID_VERSION (GIGORCHID_VERSION_MAJOR * 10000 + GIGORCHID_VERSION_MINOR * 100 + GIGORCHID_VERSION_PATCH)
 
+/* For the macros below only. */
 #ifdef __cplusplus
 #define GIGORCHID_CAST(type, value) static_cast<type>(value)
 extern "C" {
@@ -75,8 +87,10 @@ extern "C" {
 #define GIGORCHID_CAST(type, value) ((type)(value))
 #endif
 
-/* How many words each list has for N links and K steps, and how many bytes a file of so many words has. No other count is taken. The
- * longest lists, for 64 links and 1,440 steps:
+/* How many words each list has for N links and K steps, and how many bytes a file of so many words has. Every count that is lent, an output's
+ * too, is just this: one more or one less is refused, by 1, and in a file that is read by 14. The macros give a size_t, take each argument
+ * once, and are constants where their arguments are, though not in #if. They test nothing and may wrap: see that N and K are in range first.
+ * The longest lists, for 64 links and 1,440 steps:
  *
  *              words     bytes of its file
  *     corridor     586       2,560
@@ -84,9 +98,9 @@ extern "C" {
  *     plan     187,200     766,976
  *     record   374,662   1,534,976
  *
- * A block of a file has GIGORCHID_BLOCK_BYTES bytes: 128 words, each with its low byte first. Word 0 is the file's kind (1 corridor, 2
+ * A file is a row of blocks of GIGORCHID_BLOCK_BYTES bytes: 128 words, each with its low byte first. Word 0 is the file's kind (1 corridor, 2
  * demands, 3 record, 4 plan), word 1 the block's number from 0, words 2..126 the list's next 125 words, zeros after its end, and word 127
- * the sum of (2 j + 1) x word j over j = 0..126, modulo 2^32. */
+ * the sum of (2 j + 1) x word j over j = 0..126, modulo 2^32. So N stands in bytes 8..11 of a corridor's file, and K in those of the demands'. */
 #define GIGORCHID_MOST_LINKS 64
 #define GIGORCHID_MOST_STEPS 1440
 #define GIGORCHID_CORRIDOR_WORDS(n) (1 + (GIGORCHID_CAST(size_t, n) + 1) * 9)
@@ -97,40 +111,39 @@ extern "C" {
 #define GIGORCHID_FILE_BYTES(words) ((GIGORCHID_CAST(size_t, words) + 124) / 125 * GIGORCHID_BLOCK_BYTES)
 
 /* The parts of an answer. The row is the step of 5, 6 and 8 to 12, the state of 7, the block of 15 to 18, and 0 elsewhere; the node is that
- * of 2 to 12, and 0 elsewhere. */
+ * of 2 to 12, and 0 elsewhere. 8 to 10 speak of state row, 11 and 12 of state row + 1; 9 of link node and link node + 1. */
 #define GIGORCHID_REFUSAL(answer) (GIGORCHID_CAST(uint32_t, answer) & 255)
 #define GIGORCHID_NODE(answer) (GIGORCHID_CAST(uint32_t, answer) >> 8 & 255)
 #define GIGORCHID_ROW(answer) (GIGORCHID_CAST(uint32_t, answer) >> 16)
 
-/* The refusals: name, number, text. In the texts T(f) is what of f goes on past the off-ramp, S what link i + 1 can take in, and
- * n x V / 65,536 is rounded down. Of several that are due, 1 to 7 are given in number order, each over its whole input at its first place by
- * row, then node; then 8 to 12 by step, node and number; 13 last. */
-#define GIGORCHID_REFUSALS(ENTRY)                                                                                                           \
-    ENTRY(GIGORCHID_ACCEPTED, 0, "accepted")                                                                                                \
-    ENTRY(GIGORCHID_BAD_LENGTH, 1, "N, K or the length of a list or of a lent output is wrong")                                             \
-    ENTRY(GIGORCHID_BAD_LINK, 2, "F, V, W or J of the node is out of range, or not zero at node 0")                                         \
-    ENTRY(GIGORCHID_BAD_RAMP, 3, "the node's identifier is zero or repeated, or its C or L is out of range, or not zero at node N")         \
-    ENTRY(GIGORCHID_BAD_START, 4, "the node starts with n above J or l above L, or not zero at node 0 or N")                                \
-    ENTRY(GIGORCHID_BAD_DEMAND, 5, "Q or b is out of range, or not zero where it is fixed")                                                 \
-    ENTRY(GIGORCHID_BAD_PLAN, 6, "the plan's rate is above C or its limit above V")                                                         \
-    ENTRY(GIGORCHID_BAD_FIXED_WORD, 7, "the record's state 0 is not the corridor's start, or a word fixed at zero is not zero")             \
-    ENTRY(GIGORCHID_BAD_SENDING, 8, "f is more than the link can send: above n x V / 65,536 or above F")                                    \
-    ENTRY(GIGORCHID_BAD_MERGE, 9, "T(f) + r is more than the next link can take in: above S")                                               \
-    ENTRY(GIGORCHID_BAD_RAMP_FLOW, 10, "r is above the queue or above C")                                                                   \
-    ENTRY(GIGORCHID_BAD_NEXT_STATE, 11, "n or l of the next state is not what the flows make of it")                                        \
-    ENTRY(GIGORCHID_BAD_QUEUE, 12, "the next queue is above its limit L")                                                                   \
-    ENTRY(GIGORCHID_BAD_COST, 13, "the cost is not the sum of all n and l over states 1..K")                                                \
-    ENTRY(GIGORCHID_BAD_FILE_LENGTH, 14, "bytes of the file are missing or left over")                                                      \
-    ENTRY(GIGORCHID_BAD_CHECK_WORD, 15, "the block's check word is wrong")                                                                  \
-    ENTRY(GIGORCHID_BAD_KIND, 16, "the block's kind is wrong")                                                                              \
-    ENTRY(GIGORCHID_BAD_BLOCK_NUMBER, 17, "the block's number is wrong")                                                                    \
+/* The refusals: name, number, text. Where several are due, 1 to 7 are given in number order, each over its whole input at its first place by
+ * row, then node; then 8 to 12 by step, node and number; 13 last. The readers, below, say the order of 14 to 18. */
+#define GIGORCHID_REFUSALS(ENTRY)                                                                                                                  \
+    ENTRY(GIGORCHID_ACCEPTED, 0, "accepted")                                                                                                       \
+    ENTRY(GIGORCHID_BAD_LENGTH, 1, "N or K is out of range or not the list's own, or a count is not the one that N and K ask for")                 \
+    ENTRY(GIGORCHID_BAD_LINK, 2, "the node's F, V, W or J is out of range, or not zero at node 0")                                                 \
+    ENTRY(GIGORCHID_BAD_RAMP, 3, "the node's identifier is zero or that of an earlier node, or its C or L is out of range, or not zero at node N") \
+    ENTRY(GIGORCHID_BAD_START, 4, "the node starts with n above J or with l above L")                                                              \
+    ENTRY(GIGORCHID_BAD_DEMAND, 5, "Q or b is above 65,536, or not zero where it is fixed: b at node 0, both at node N")                           \
+    ENTRY(GIGORCHID_BAD_PLAN, 6, "the plan's rate is above C, or its limit above V")                                                               \
+    ENTRY(GIGORCHID_BAD_FIXED_WORD, 7, "n or l of state 0 is not the corridor's start, or a word fixed at zero is not zero")                       \
+    ENTRY(GIGORCHID_BAD_SENDING, 8, "f is more than the link can send at full speed: above n x V / 65,536 or above F")                             \
+    ENTRY(GIGORCHID_BAD_MERGE, 9, "T(f) + r is more than the next link can take in: above S")                                                      \
+    ENTRY(GIGORCHID_BAD_RAMP_FLOW, 10, "r is above l or above C")                                                                                  \
+    ENTRY(GIGORCHID_BAD_NEXT_STATE, 11, "n or l of the next state is not what rule 6 gives")                                                       \
+    ENTRY(GIGORCHID_BAD_QUEUE, 12, "l of the next state is above L")                                                                               \
+    ENTRY(GIGORCHID_BAD_COST, 13, "the cost is not the sum of all n and l over states 1..K")                                                       \
+    ENTRY(GIGORCHID_BAD_FILE_LENGTH, 14, "the file has not the bytes that N and K ask for")                                                        \
+    ENTRY(GIGORCHID_BAD_CHECK_WORD, 15, "the block's check word is wrong")                                                                         \
+    ENTRY(GIGORCHID_BAD_KIND, 16, "the block's kind is not that of the file asked for")                                                            \
+    ENTRY(GIGORCHID_BAD_BLOCK_NUMBER, 17, "the block's number is not its place in the file")                                                       \
     ENTRY(GIGORCHID_BAD_PADDING, 18, "the block's padding is not zero")
 
 #define GIGORCHID_ENUMERATOR(name, number, text) name = number,
 enum gigorchid_refusal { GIGORCHID_REFUSALS(GIGORCHID_ENUMERATOR) };
 #undef GIGORCHID_ENUMERATOR
 
-/* The text of a refusal number, of GIGORCHID_REFUSAL(answer). */
+/* The text of a refusal number, that is of GIGORCHID_REFUSAL(answer); never null. */
 static inline const char *gigorchid_refusal_text(uint32_t number)
 {
     switch (number) {
@@ -158,8 +171,8 @@ uint32_t gigorchid_check_words(const uint32_t *corridor, size_t corridor_words,
                                const uint32_t *demands, size_t demands_words,
                                const uint32_t *record, size_t record_words);
 
-/* The same, and fills `plan` with a plan that has the record: of each node at each step the smallest rate at full speed that gives its
- * flows, or, where none does, the rate r and the smallest limit that sends f. */
+/* The same, and fills `plan` with a plan that has the record: for each node at each step limit V and the smallest rate that gives f and r with
+ * it, or, if no rate does, rate r and the smallest limit that sends f. */
 uint32_t gigorchid_convert_words(const uint32_t *corridor, size_t corridor_words,
                                  const uint32_t *demands, size_t demands_words,
                                  const uint32_t *record, size_t record_words,
@@ -174,7 +187,7 @@ uint32_t gigorchid_normal_words(const uint32_t *corridor, size_t corridor_words,
                                 uint32_t *work, size_t work_words,
                                 uint32_t *normal, size_t normal_words);
 
-/* ---- the corridor as a list of nodes: N is their count less one, 2 to 65 of them, else 1 ---- */
+/* ---- the corridor as a list of nodes: N is their count less one; a count other than 2 to 65 is refused by 1 ---- */
 
 /* The words of a node in a corridor's list, in their order. */
 struct gigorchid_node {
@@ -211,7 +224,7 @@ uint32_t gigorchid_normal_nodes(const struct gigorchid_node *corridor, size_t no
  *
  * A reader answers 1 for a bad N or K or a wrong count of words, then 14, then 15, 16, 17 block by block, then 18, then 1 if the file's own N or
  * K, the first word of a corridor and of demands, is another. A writer answers 1 for a bad N or K, a wrong count of bytes or words, or a list
- * whose own N or K is another; it tests no other word. */
+ * whose own N or K is another; it tests no other word. N and K are tested for 1..64 and 1..1,440 even where a list does not depend on them. */
 uint32_t gigorchid_read_corridor(uint32_t n, uint32_t k, const uint8_t *file, size_t bytes, uint32_t *words, size_t count);
 uint32_t gigorchid_read_demands(uint32_t n, uint32_t k, const uint8_t *file, size_t bytes, uint32_t *words, size_t count);
 uint32_t gigorchid_read_record(uint32_t n, uint32_t k, const uint8_t *file, size_t bytes, uint32_t *words, size_t count);
@@ -224,9 +237,10 @@ uint32_t gigorchid_write_plan(uint32_t n, uint32_t k, const uint32_t *words, siz
 /* ---- checker and converter on block files, told N and K: the bytes stay where they are ----
  *
  * They answer 1 for a bad N or K or a wrong count of plan bytes, then what the readers of corridor, demands and record answer in turn, then
- * what the call on words answers. So 14 to 18 do not tell which file they speak of, and 1 may speak of N, K, plan_bytes or a file. To learn it,
- * look at N, K and plan_bytes first, then call the three readers in this order: the first that refuses has the file, and its answer is the
- * same number (examples/host.c does so). */
+ * what the call on words answers. So 1 and 14 to 18 do not tell which file they speak of. To learn it:
+ *   - See that N is 1..64, K is 1..1,440 and plan_bytes is as below; else that is the fault.
+ *   - Call the three readers in this order: the first that refuses has the file, and its answer is the same number (examples/host.c does so).
+ *   - Of 1 and 14, N or K itself may be wrong: compare them with bytes 8..11 of the corridor's and of the demands' file. */
 uint32_t gigorchid_check_files(uint32_t n, uint32_t k,
                                const uint8_t *corridor, size_t corridor_bytes,
                                const uint8_t *demands, size_t demands_bytes,
