@@ -1,7 +1,9 @@
--- What is printed: lines by index, one after another, are as long as their lengths in sum; and the text of a long input.
+-- What is printed: a line that is handed over is as long as its text, lines by index, one after another, as long as their lengths in sum; and the
+-- text of a long input.
 use Prim.Native.Nat.{ℕ, zero, suc, _+_, _*_, _<_, _≤_}
+use mathlib.Core.Bool.{Bool}
 use mathlib.Core.List.{List}
-use mathlib.Core.Path.{_≡_, refl, sym, ap, _∙_}
+use mathlib.Core.Path.{_≡_, refl, sym, ap, subst, _∙_}
 use native.Mathlib.Omega.{arith}
 use lib.ListN.{length, length-append, take}
 use Rattle.io.specs.Counts.{Counts}
@@ -9,13 +11,17 @@ use Rattle.tables.specs.declared.Answer.{Answer}
 use Rattle.tables.specs.declared.Answer.the-variants.{Accepted, Refused}
 use Rattle.tables.specs.Sum.{sum}
 use Rattle.tables.proofs.Sum.{Summed, summed-ended}
+use Rattle.normal.specs.declared.inner.print.Given.{Given}
+use Rattle.normal.specs.Fits.{Gives}
 use Rattle.normal.specs.Input.{linksIn, stepsIn, inputAnswer}
 use Rattle.normal.specs.Text.{headLine, refusedLine, planLine, linesOf, stepText, planText, textFor, printed}
 use Rattle.normal.proofs.Input.{input-long}
 
--- a line that was put into a buffer is as long as the buffer's part with it
-pub counted : (r : ℕ) (out text : List ℕ) → take r out ≡ text → Counts r out → r ≡ length text
-counted r out text e h = h .1 ∙ ap length e
+-- a line of n bytes that was put into a buffer of at most b, where the buffer's part with the line was handed over
+pub line-given : (n b : ℕ) (out text : List ℕ) (failed : Bool) (given : Given) → (take n out ≡ text) × Counts n out → length out ≤ b → Gives (take n out) failed given
+    → Gives text failed given × (given .bytes ≤ b)
+line-given n b out text failed given line few g =
+    (subst (λ (x : List ℕ). Gives x failed given) (line .0) g, omega (arith, g .bytes, line .1 .0, line .1 .1))
 
 lines-length : (n : ℕ) (line : ℕ → List ℕ) → length (linesOf n line) ≡ sum n (λ i. length (line i))
 unfolding linesOf sum

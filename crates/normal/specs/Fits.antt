@@ -1,6 +1,7 @@
 -- What the functions of the program ask and answer in between: the tails of the input's answer, where its files stand, the cost that the record
--- states, and a text put into a lent buffer.
+-- states, a text put into a lent buffer, what was read and what was printed.
 use Prim.Native.Nat.{ℕ, _+_, _*_, _≤_}
+use mathlib.Core.Bool.{Bool, true}
 use mathlib.Core.List.{List, _++_}
 use mathlib.Core.Path.{_≡_}
 use lib.Dec.{leb, eqb}
@@ -13,6 +14,9 @@ use Rattle.payload.specs.File.{blocksFor, payloadWord}
 use Rattle.payload.specs.Reading.{tested}
 use Rattle.files.specs.Files.{readThenCheck}
 use Rattle.normal.specs.declared.inner.input.Layout.{Layout}
+use Rattle.normal.specs.declared.inner.print.Given.{Given}
+use Rattle.normal.specs.declared.inner.receive.Received.{Received}
+use Rattle.normal.specs.declared.inner.receive.Received.the-variants.{Whole, Long, Failed}
 use Rattle.normal.specs.Input.{linksIn, stepsIn, demandsBlock, endBlock, corridorFile, demandsFile, recordFile}
 
 -- ---- what is left of the answer
@@ -50,3 +54,16 @@ pub record Put (before : List ℕ) (at : ℕ) (text : List ℕ) (r : ℕ) (after
   pub ends : r ≡ at + length text
   pub fits : r ≤ length after
   pub reads : take r after ≡ take at before ++ text
+
+-- ---- standard input and output
+
+-- a whole input is within the room that it was read into
+abbrev pub Within : Received → List ℕ → Type 0
+Within (Whole n) room = n ≤ length room
+Within Long room = Unit {0}
+Within Failed room = Unit {0}
+
+-- all bytes of `text` were gone through, and a failed write that was told before is told still
+pub record Gives (text : List ℕ) (failed : Bool) (given : Given) : Type 0 where
+  pub bytes : given .bytes ≡ length text
+  pub told : failed ≡ true → given .failed ≡ true

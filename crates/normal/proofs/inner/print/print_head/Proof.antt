@@ -1,14 +1,12 @@
--- As many bytes as the line has, within the buffer.
+-- The buffer's part that is handed over is the line.
 use native.Mathlib.Omega.{arith}
 use borrow.Author.Needs.{needs}
-use Rattle.normal.proofs.Printed.{counted}
+use Rattle.normal.proofs.Printed.{line-given}
 use Rattle.normal.proofs.inner.print.print_head.Statement.{statement}
 use Rattle.normal.proofs.inner.print.print_head.Tie as tie
 
 returns : tie.Need-returns
-returns c =
-    let line = c .before .before .before .head-line .ensures in
-    (counted _ _ _ (line .0) (line .1), omega (arith, line .1 .0))
+returns c = line-given _ 128 _ _ _ _ (c .before .before .before .head-line .ensures) (omega arith) (c .hand-over .ensures)
 
 pub print-head-spec : {M : Type 1} → statement M
 print-head-spec =

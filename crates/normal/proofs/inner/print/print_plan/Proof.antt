@@ -14,7 +14,10 @@ print-steps-requires c κs =
     (k .pre, ((omega (arith, laid .links), omega (arith, laid .links, told .linksHigh)), (laid .steps, omega (arith, laid .steps, told .stepsHigh))))
 
 returns : tie.Need-returns
-returns c = plan-counted _ _ _ _ (c .before .before .before .before .print-head .ensures .0) (c .print-steps .ensures .0) (omega arith)
+returns c =
+    let steps = c .before .before .print-steps .ensures .0 in
+    let head = c .before .before .before .before .before .before .print-head .ensures .0 in
+    record { bytes = plan-counted _ _ _ _ (head .bytes) (steps .bytes) (omega arith); told = λ t. steps .told (head .told t) }
 
 pub print-plan-spec : {M : Type 1} → statement M
 print-plan-spec =

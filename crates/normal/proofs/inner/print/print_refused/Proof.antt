@@ -1,13 +1,12 @@
--- As many bytes as the line has.
+-- The buffer's part that is handed over is the line.
+use native.Mathlib.Omega.{arith}
 use borrow.Author.Needs.{needs}
-use Rattle.normal.proofs.Printed.{counted}
+use Rattle.normal.proofs.Printed.{line-given}
 use Rattle.normal.proofs.inner.print.print_refused.Statement.{statement}
 use Rattle.normal.proofs.inner.print.print_refused.Tie as tie
 
 returns : tie.Need-returns
-returns c =
-    let line = c .before .before .before .refused-line .ensures in
-    counted _ _ _ (line .0) (line .1)
+returns c = line-given _ 128 _ _ _ _ (c .before .before .before .refused-line .ensures) (omega arith) (c .hand-over .ensures) .0
 
 pub print-refused-spec : {M : Type 1} → statement M
 print-refused-spec =
