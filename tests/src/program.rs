@@ -4,7 +4,7 @@
 use crate::calls::Program;
 use std::io::Write;
 use std::path::{Path, PathBuf};
-use std::process::{Command, Stdio};
+use std::process::{Command, Output, Stdio};
 
 /// The executable.
 pub struct Executable {
@@ -16,6 +16,20 @@ impl Executable {
         let path = std::env::var("GIGORCHID_NORMAL").unwrap_or("../target/bin/normal".to_string());
         Executable { path: Path::new(env!("CARGO_MANIFEST_DIR")).join(path) }
     }
+
+    /// The program, to be started as it is.
+    pub fn command(&self) -> Command {
+        Command::new(&self.path)
+    }
+
+    /// The program where no file may grow above that many blocks of 512 bytes: a write past them
+    /// fails, and sends no signal.
+    pub fn command_within(&self, blocks: u32) -> Command {
+        let mut command = Command::new("sh");
+        command.arg("-c").arg(r#"trap "" XFSZ; ulimit -f "$1"; exec "$0""#);
+        command.arg(&self.path).arg(blocks.to_string());
+        command
+    }
 }
 
 impl Default for Executable {
@@ -24,21 +38,26 @@ impl Default for Executable {
     }
 }
 
+/// What a command leaves that is given those bytes to read. The program may stop reading once the
+/// input is too long.
+pub fn run(mut command: Command, input: &[u8]) -> Output {
+    let mut child =
+        command.stdin(Stdio::piped()).stderr(Stdio::piped()).spawn().expect("the program starts");
+    let mut stdin = child.stdin.take().expect("asked for");
+    std::thread::scope(|scope| {
+        scope.spawn(move || stdin.write_all(input).ok());
+        child.wait_with_output().expect("the program ends")
+    })
+}
+
+/// Where it can read and write, the program says nothing on standard error.
 impl Program for Executable {
     fn print(&self, input: &[u8]) -> Vec<u8> {
-        let mut command = Command::new(&self.path);
-        let mut child = command
-            .stdin(Stdio::piped())
-            .stdout(Stdio::piped())
-            .spawn()
-            .expect("the program starts");
-        let mut stdin = child.stdin.take().expect("asked for");
-        std::thread::scope(|scope| {
-            // The program may stop reading once the input is too long; what it prints tells.
-            scope.spawn(move || stdin.write_all(input).ok());
-            let output = child.wait_with_output().expect("the program ends");
-            assert!(output.status.code().is_some(), "a signal ended the program");
-            output.stdout
-        })
+        let mut command = self.command();
+        command.stdout(Stdio::piped());
+        let output = run(command, input);
+        assert_eq!(output.status.code(), Some(0), "how the program ended");
+        assert_eq!(String::from_utf8_lossy(&output.stderr), "");
+        output.stdout
     }
 }

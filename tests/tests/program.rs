@@ -1,15 +1,24 @@
-//! The program `normal` against the model: what it prints, byte for byte.
+//! The program `normal` against the model: what it prints, byte for byte; and what it says where it
+//! cannot read or write.
 
+use std::fs::{self, File};
+use std::io::Write;
+use std::os::fd::OwnedFd;
+use std::os::unix::net::UnixStream;
+use std::path::Path;
+use std::process::Output;
+use tests::calls::Program;
 use tests::compare::{compare_limit_of_program, compare_program, Series};
 use tests::examples::assert_program_examples;
 use tests::limits::limit_cases;
 use tests::model::lists::{MOST_LINKS, MOST_STEPS};
 use tests::model::program::{file_ends, MOST_BYTES};
 use tests::model::{Quick, Size};
-use tests::program::Executable;
+use tests::program::{run, Executable};
 use tests::random::files::{program_input, ThreeFiles};
 use tests::random::sound::sound_case;
 use tests::random::Random;
+use tests::samples;
 use tests::tally::Tally;
 
 #[test]
@@ -77,4 +86,74 @@ fn inputs_that_end_early() {
         assert_eq!(outcome, Ok(()), "{length} bytes");
     }
     tally.expect("normal", &[14], 40);
+}
+
+/// B's corridor, its demands and a record, out of the example files.
+fn example(record: &str) -> Vec<u8> {
+    let read = |name| fs::read(samples::folder().join(name)).expect("the example is there");
+    ["corridor.blocks", "demands.blocks", record].map(read).concat()
+}
+
+/// The program ended by itself, and said just that on standard error.
+fn assert_says(output: &Output, line: &str) {
+    assert_eq!(String::from_utf8_lossy(&output.stderr), line);
+    assert_eq!(output.status.code(), Some(0));
+}
+
+/// An input that is accepted, one that is refused and one that is too long.
+#[test]
+fn output_that_takes_nothing() {
+    for input in [example("case1.blocks"), example("case5.blocks"), vec![0; MOST_BYTES + 1]] {
+        let mut command = Executable::new().command();
+        command.stdout(File::options().write(true).open("/dev/full").expect("Linux has it"));
+        assert_says(&run(command, &input), "normal: cannot write standard output\n");
+    }
+}
+
+/// What is written is the start of the plan, up to where no more could be written.
+#[test]
+fn output_that_takes_a_part() {
+    let size = Size { links: 2, steps: 100 };
+    let mut random = Random::new(150_000_000);
+    let inputs = std::iter::repeat_with(|| {
+        let case = sound_case(&mut random, size, false);
+        ThreeFiles::of_case(size, &case).files().concat()
+    });
+    let mut printed = inputs.map(|input| (Quick.print(&input), input));
+    let (plan, input) =
+        printed.find(|(text, _)| text.starts_with(b"PLAN")).expect("one has a plan");
+    let path = Path::new(env!("CARGO_TARGET_TMPDIR")).join("part_of_a_plan");
+    for blocks in [1, 2, 3] {
+        let mut command = Executable::new().command_within(blocks);
+        command.stdout(File::create(&path).expect("a file can be made"));
+        assert_says(&run(command, &input), "normal: cannot write standard output\n");
+        let written = fs::read(&path).expect("the file was made");
+        assert_eq!(written, plan[..512 * blocks as usize]);
+    }
+}
+
+/// A directory opens, and no read of it succeeds.
+#[test]
+fn input_that_cannot_be_read() {
+    let folder = File::open(samples::folder()).expect("the folder is there");
+    let output = Executable::new().command().stdin(folder).output().expect("the program starts");
+    assert_eq!(output.stdout, b"");
+    assert_says(&output, "normal: cannot read standard input\n");
+}
+
+/// Reads that fail after so many bytes: a socket with nothing in it that does not wait for more. An
+/// input that would be accepted or refused if it ended there is neither.
+#[test]
+fn input_that_can_be_read_in_part() {
+    let accepted = example("case1.blocks");
+    let inputs = [&accepted[..0], &accepted[..700], &accepted, &[0; MOST_BYTES]];
+    for input in inputs {
+        let (mut giver, taker) = UnixStream::pair().expect("a socket can be made");
+        taker.set_nonblocking(true).expect("a socket can be told not to wait");
+        giver.write_all(input).expect("the socket takes the input");
+        let mut command = Executable::new().command();
+        let output = command.stdin(OwnedFd::from(taker)).output().expect("the program starts");
+        assert_eq!(output.stdout, b"", "{} bytes", input.len());
+        assert_says(&output, "normal: cannot read standard input\n");
+    }
 }
