@@ -59,7 +59,7 @@
  * ---- A step, at node i; every quotient is rounded down ----
  *
  *     1  sending       D = min(n x limit / 65,536, F)                       of link i; 0 at node 0
- *     2  through part  T(x) = x - x x b / 65,536                            the rest leaves by the off-ramp
+ *     2  through part  T(y) = y - y x b / 65,536, of a flow y               the rest leaves by the off-ramp
  *     3  offer         d = min(l, C, rate)                                  of the on-ramp; 0 at node N
  *     4  receiving     S = min(F, W x (J - n) / 65,536)                     all of link i + 1
  *     5  merge         R = T(D) + d; where R <= S, and at node N, f = D and r = d; else f = D x S / R and r = d x S / R

@@ -102,15 +102,24 @@ fn links_lead_somewhere() {
     assert!(followed > 5, "only {followed} links");
 }
 
-/// Every name that PROMISES quotes stands in the code, the tests, the header or a file's name.
+/// Every name that a page quotes stands in the code, the tests, the header or a file's name.
 #[test]
-fn promised_names_exist() {
-    let page = text_of("docs/PROMISES.md");
+fn quoted_names_exist() {
     let plain = |c: char| c.is_ascii_alphanumeric() || c == '-' || c == '_';
-    let code = ["crates", "tests", "include", "examples"].map(all_text).concat();
+    let code = ["crates", "tests", "tools", "include", "examples", ".ci"].map(all_text).concat();
     let known: BTreeSet<&str> = code.split(|c| !plain(c)).collect();
-    let missing: Vec<&str> =
-        names(&page).into_iter().filter(|name| !known.contains(name)).collect();
-    assert!(names(&page).len() > 200, "the page quotes hardly any name");
-    assert_eq!(missing, Vec::<&str>::new());
+    for (page, least) in [
+        ("README.md", 10),
+        ("docs/PROMISES.md", 200),
+        ("docs/READING.md", 50),
+        ("docs/MODEL.md", 10),
+        ("docs/DECISIONS.md", 40),
+        ("docs/TRUST.md", 5),
+    ] {
+        let text = text_of(page);
+        let quoted = names(&text);
+        assert!(quoted.len() >= least, "{page} quotes only {} names", quoted.len());
+        let missing = quoted.into_iter().filter(|name| !known.contains(name));
+        assert_eq!(missing.collect::<Vec<_>>(), Vec::<&str>::new(), "{page}");
+    }
 }
