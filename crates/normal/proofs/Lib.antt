@@ -1,4 +1,5 @@
 pub mod Input
 pub mod Text
 pub mod Printed
+pub mod Received
 pub mod Cases

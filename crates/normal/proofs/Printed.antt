@@ -1,11 +1,12 @@
 -- What is printed: a line that is handed over is as long as its text, lines by index, one after another, as long as their lengths in sum; and the
--- text of a long input.
+-- text of a cut input.
 use Prim.Native.Nat.{ℕ, zero, suc, _+_, _*_, _<_, _≤_}
 use mathlib.Core.Bool.{Bool}
 use mathlib.Core.List.{List}
 use mathlib.Core.Path.{_≡_, refl, sym, ap, subst, _∙_}
 use native.Mathlib.Omega.{arith}
 use lib.ListN.{length, length-append, take}
+use lib.Seq.{length-take-le}
 use Rattle.io.specs.Counts.{Counts}
 use Rattle.tables.specs.declared.Answer.{Answer}
 use Rattle.tables.specs.declared.Answer.the-variants.{Accepted, Refused}
@@ -62,6 +63,11 @@ module _ (input : List ℕ) (answer : Answer) (told : answer ≡ inputAnswer inp
   refused-counted number row node e h = h ∙ ap (λ (a : Answer). length (textFor a input)) (sym e ∙ told)
 
 -- an input above 65,536 bytes is refused by 14
-pub long-printed : (text input : List ℕ) → text ≡ refusedLine 14 0 0 → 65536 < length input → text ≡ printed input
+long-printed : (input : List ℕ) → 65536 < length input → printed input ≡ refusedLine 14 0 0
 unfolding printed
-long-printed text input e h = e ∙ ap (λ (a : Answer). textFor a input) (input-long input (Refused 14 0 0) refl h)
+long-printed input h = ap (λ (a : Answer). textFor a input) (sym (input-long input (Refused 14 0 0) refl h))
+
+-- so what is printed for its first 65,537 bytes is what is to be printed for all of it
+pub cut-printed : (input : List ℕ) → 65536 < length input → printed (take 65537 input) ≡ printed input
+cut-printed input h =
+    long-printed (take 65537 input) (omega (arith, length-take-le 65537 input (omega (arith, h)))) ∙ sym (long-printed input h)

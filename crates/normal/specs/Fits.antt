@@ -1,10 +1,11 @@
 -- What the functions of the program ask and answer in between: the tails of the input's answer, where its files stand, the cost that the record
 -- states, a text put into a lent buffer, what was read and what was printed.
-use Prim.Native.Nat.{ℕ, _+_, _*_, _≤_}
+use Prim.Native.Nat.{ℕ, _+_, _*_, _≤_, min}
 use mathlib.Core.Bool.{Bool, true}
 use mathlib.Core.List.{List, _++_}
 use mathlib.Core.Path.{_≡_}
 use lib.Dec.{leb, eqb}
+use lib.IntN.{ℤ, pos, negsuc}
 use lib.ListN.{length, take}
 use Rattle.tables.specs.declared.Answer.{Answer}
 use Rattle.tables.specs.Answer.{orElse, sized}
@@ -16,7 +17,7 @@ use Rattle.files.specs.Files.{readThenCheck}
 use Rattle.normal.specs.declared.inner.input.Layout.{Layout}
 use Rattle.normal.specs.declared.inner.print.Given.{Given}
 use Rattle.normal.specs.declared.inner.receive.Received.{Received}
-use Rattle.normal.specs.declared.inner.receive.Received.the-variants.{Whole, Long, Failed}
+use Rattle.normal.specs.declared.inner.receive.Received.the-variants.{Bytes, Failed}
 use Rattle.normal.specs.Input.{linksIn, stepsIn, demandsBlock, endBlock, corridorFile, demandsFile, recordFile}
 
 -- ---- what is left of the answer
@@ -57,10 +58,14 @@ pub record Put (before : List ℕ) (at : ℕ) (text : List ℕ) (r : ℕ) (after
 
 -- ---- standard input and output
 
--- a whole input is within the room that it was read into
+-- what the C library's answer to a read of at most so many bytes says: a number below zero is a failure
+abbrev pub received : ℤ → ℕ → Received
+received (pos n) most = Bytes (min n most)
+received (negsuc n) most = Failed
+
+-- the bytes that were received are within the room
 abbrev pub Within : Received → List ℕ → Type 0
-Within (Whole n) room = n ≤ length room
-Within Long room = Unit {0}
+Within (Bytes n) room = n ≤ length room
 Within Failed room = Unit {0}
 
 -- all bytes of `text` were gone through, and a failed write that was told before is told still

@@ -1,7 +1,7 @@
 // The lines that the program prints, each put into a lent buffer of 128 bytes; the answer is the line's length.
 ghost use mathlib.Core.Path.{_≡_};
-ghost use mathlib.Core.List.{List, [], _∷_, _++_};
-ghost use Prim.Native.Nat.{ℕ, _≤_, _<_};
+ghost use mathlib.Core.List.{[], _∷_, _++_};
+ghost use Prim.Native.Nat.{_≤_, _<_};
 ghost use lib.ListN.{length, take};
 ghost use Rattle.io.specs.Counts.{Counts};
 ghost use Rattle.tables.specs.declared.Answer.the-variants.{Accepted};
@@ -12,7 +12,7 @@ ghost use Rattle.files.specs.Files.{demandsIn, recordIn};
 ghost use Rattle.files.specs.Fits.{Holds, FilesFit, Accepts, FilesKept};
 ghost use Rattle.normal.specs.Input.{linksIn, stepsIn, inputAnswer};
 ghost use Rattle.normal.specs.Fits.{statedCost};
-ghost use Rattle.normal.specs.Text.{decimal, spaced, refusedLine, headLine, settingLine, filesLine, planLine, printed};
+ghost use Rattle.normal.specs.Text.{decimal, spaced, refusedLine, headLine, settingLine, filesLine, planLine};
 use crate::inner::input;
 use crate::inner::text;
 use files::inner::unpacked;
@@ -41,15 +41,6 @@ pub fn refused_line(number: u32, row: u32, node: u32, out: &mut [u8]) -> usize
     ensures { λ r. ⌜ Counts r (now (out .exit)) ⌝ }
 {
     put_numbers(b"REFUSED", number as u64, row as u64, node as u64, out)
-}
-
-// The answer to every input above 65,536 bytes.
-pub fn long_line(out: &mut [u8]) -> usize
-    requires { ⌜ length (now out) ≡ 128 ⌝ }
-    ensures { λ r. ⌜ ((input : List ℕ) → 65536 < length input → take r (now (out .exit)) ≡ printed input) ⌝ }
-    ensures { λ r. ⌜ Counts r (now (out .exit)) ⌝ }
-{
-    refused_line(14, 0, 0, out)
 }
 
 // The cost that a record states in its two last words.

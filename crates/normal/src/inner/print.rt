@@ -43,14 +43,6 @@ fn print_refused(number: u32, row: u32, node: u32, failed: bool) -> Given
     hand_over(&out[..n], failed)
 }
 
-// The answer to an input above 65,536 bytes, and whether its write failed.
-pub fn print_long() -> bool {
-    let mut out = [0u8; 128];
-    let n = lines::long_line(&mut out);
-    let given = hand_over(&out[..n], false);
-    given.failed
-}
-
 // The first line.
 fn print_head(input: &[u8], failed: bool) -> Given
     requires { ⌜ inputAnswer (now input) ≡ Accepted ⌝ }

@@ -1,29 +1,24 @@
 // Standard input read into a lent room. A read that fails is told apart from the end of the input.
-ghost use Rattle.normal.specs.Fits.{Within};
+ghost use mathlib.Core.Path.{_≡_};
+ghost use lib.ListN.{length};
+ghost use Rattle.normal.specs.Fits.{received, Within};
 use libc::STDIN_FILENO;
 
 pub enum Received {
-    // The input is so many of the room's first bytes.
-    Whole(usize),
-    // The input goes on past the room's end.
-    Long,
+    // So many bytes were put at the room's start; a single read puts none at the input's end.
+    Bytes(usize),
     // A read failed, so that nothing is known of the rest.
     Failed,
 }
 
-// What was received where the room is full. That the input ends there is known only after one read more.
-fn at_end(room: &[u8]) -> Received
-    ensures { λ r. ⌜ Within r (now (room .entry)) ⌝ }
+// What the C library's answer to a read into a buffer says.
+fn said(answer: isize, buffer: &[u8]) -> Received
+    ensures { λ r. ⌜ (r ≡ received answer (length (now (buffer .entry)))) × Within r (now (buffer .entry)) ⌝ }
 {
-    let mut next = [0u8; 1];
-    let got = libc::read(STDIN_FILENO, &mut next);
-    if got < 0 {
+    if answer < 0 {
         return Received::Failed;
     }
-    if got == 0 {
-        return Received::Whole(room.len());
-    }
-    Received::Long
+    Received::Bytes(io::count(answer, buffer))
 }
 
 // Reads until the room is full, the input ends or a read fails.
@@ -32,15 +27,15 @@ pub fn receive(room: &mut [u8]) -> Received
 {
     let mut done: usize = 0;
     while done < room.len() {
-        let got = libc::read(STDIN_FILENO, &mut room[done..]);
-        if got < 0 {
+        let answer = libc::read(STDIN_FILENO, &mut room[done..]);
+        let read = said(answer, &room[done..]);
+        let Received::Bytes(more) = read else {
             return Received::Failed;
-        }
-        let more = io::count(got, &room[done..]);
+        };
         if more == 0 {
-            return Received::Whole(done);
+            return Received::Bytes(done);
         }
         done += more;
     }
-    at_end(room)
+    Received::Bytes(done)
 }
