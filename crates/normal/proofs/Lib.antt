@@ -1,5 +1,2 @@
-pub mod Input
-pub mod Text
 pub mod Printed
 pub mod Received
-pub mod Cases

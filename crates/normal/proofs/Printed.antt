@@ -14,9 +14,9 @@ use Rattle.tables.specs.Sum.{sum}
 use Rattle.tables.proofs.Sum.{Summed, summed-ended}
 use Rattle.normal.specs.declared.inner.print.Given.{Given}
 use Rattle.normal.specs.Fits.{Gives}
-use Rattle.normal.specs.Input.{linksIn, stepsIn, inputAnswer}
-use Rattle.normal.specs.Text.{headLine, refusedLine, planLine, linesOf, stepText, planText, textFor, printed}
-use Rattle.normal.proofs.Input.{input-long}
+use Rattle.printed.specs.Input.{linksIn, stepsIn, inputAnswer}
+use Rattle.printed.specs.Text.{headLine, refusedLine, planLine, linesOf, stepText, planText, textFor, printed}
+use Rattle.printed.proofs.Input.{input-long}
 
 -- a line of n bytes that was put into a buffer of at most b, where the buffer's part with the line was handed over
 pub line-given : (n b : ℕ) (out text : List ℕ) (failed : Bool) (given : Given) → (take n out ≡ text) × Counts n out → length out ≤ b → Gives (take n out) failed given

@@ -1,62 +1,13 @@
--- What the functions of the program ask and answer in between: the tails of the input's answer, where its files stand, the cost that the record
--- states, a text put into a lent buffer, what was read and what was printed.
-use Prim.Native.Nat.{ℕ, _+_, _*_, _≤_, min}
+-- What the program's functions answer of standard input and output: what was received, and what was given to be written.
+use Prim.Native.Nat.{ℕ, _≤_, min}
 use mathlib.Core.Bool.{Bool, true}
-use mathlib.Core.List.{List, _++_}
+use mathlib.Core.List.{List}
 use mathlib.Core.Path.{_≡_}
-use lib.Dec.{leb, eqb}
 use lib.IntN.{ℤ, pos, negsuc}
-use lib.ListN.{length, take}
-use Rattle.tables.specs.declared.Answer.{Answer}
-use Rattle.tables.specs.Answer.{orElse, sized}
-use Rattle.lists.specs.Words.{recordWidth, corridorLength, demandsLength, traceLength, recordLength}
-use Rattle.faults.specs.Lists.{within}
-use Rattle.payload.specs.File.{blocksFor, payloadWord}
-use Rattle.payload.specs.Reading.{tested}
-use Rattle.files.specs.Files.{readThenCheck}
-use Rattle.normal.specs.declared.inner.input.Layout.{Layout}
+use lib.ListN.{length}
 use Rattle.normal.specs.declared.inner.print.Given.{Given}
 use Rattle.normal.specs.declared.inner.receive.Received.{Received}
 use Rattle.normal.specs.declared.inner.receive.Received.the-variants.{Bytes, Failed}
-use Rattle.normal.specs.Input.{linksIn, stepsIn, demandsBlock, endBlock, corridorFile, demandsFile, recordFile}
-
--- ---- what is left of the answer
-
--- once N and K are good
-abbrev pub filesLeft : List ℕ → Answer
-filesLeft input =
-    orElse (tested (eqb (length input) (endBlock input * 512)) 14 0)
-    (readThenCheck (linksIn input) (stepsIn input) (corridorFile input) (demandsFile input) (recordFile input))
-
--- once N is good
-abbrev pub stepsLeft : List ℕ → Answer
-stepsLeft input =
-    orElse (tested (leb (demandsBlock input * 512 + 12) (length input)) 14 0)
-    (orElse (sized (within 1 1440 (stepsIn input))) (filesLeft input))
-
--- ---- where the files of N links and K steps stand
-
-pub record Laid (n k : ℕ) (layout : Layout) : Type 0 where
-  pub links : layout .links ≡ n
-  pub steps : layout .steps ≡ k
-  pub demands : layout .demands ≡ blocksFor (corridorLength n) * 512
-  pub recorded : layout .recorded ≡ (blocksFor (corridorLength n) + blocksFor (demandsLength n k)) * 512
-  pub end : layout .end ≡ (blocksFor (corridorLength n) + blocksFor (demandsLength n k) + blocksFor (recordLength recordWidth n k)) * 512
-
--- ---- the cost that a record's file states, in the two words after those of all states
-
-abbrev pub statedCost : ℕ → ℕ → List ℕ → ℕ
-statedCost links steps file = payloadWord file (traceLength recordWidth links steps + 1) * 4294967296 + payloadWord file (traceLength recordWidth links steps)
-
--- ---- text
-
--- `text` was put at place `at` of a buffer, and ends before place r
-pub record Put (before : List ℕ) (at : ℕ) (text : List ℕ) (r : ℕ) (after : List ℕ) : Type 0 where
-  pub ends : r ≡ at + length text
-  pub fits : r ≤ length after
-  pub reads : take r after ≡ take at before ++ text
-
--- ---- standard input and output
 
 -- what the C library's answer to a read of at most so many bytes says: a number below zero is a failure
 abbrev pub received : ℤ → ℕ → Received

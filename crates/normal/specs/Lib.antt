@@ -1,4 +1,1 @@
-pub mod Input
-pub mod Text
 pub mod Fits
-pub mod Cases

@@ -1,6 +1,3 @@
-// The input received, its answer, the text of its lines, and their printing.
-pub mod input;
-pub mod lines;
+// The input received, and the printing of what is to be printed for it.
 pub mod print;
 pub mod receive;
-pub mod text;

@@ -4,12 +4,12 @@ ghost use mathlib.Core.Path.{_≡_};
 ghost use Prim.Native.Nat.{_+_, _<_, _≤_};
 ghost use lib.ListN.{length};
 ghost use Rattle.tables.specs.declared.Answer.the-variants.{Accepted};
-ghost use Rattle.normal.specs.Input.{linksIn, stepsIn, inputAnswer};
+ghost use Rattle.printed.specs.Input.{linksIn, stepsIn, inputAnswer};
 ghost use Rattle.normal.specs.Fits.{Gives};
-ghost use Rattle.normal.specs.Text.{refusedLine, headLine, planLine, linesOf, stepText, planText, printed};
-use crate::inner::input;
-use crate::inner::lines;
+ghost use Rattle.printed.specs.Text.{refusedLine, headLine, planLine, linesOf, stepText, planText, printed};
 use libc::STDOUT_FILENO;
+use printed::inner::input;
+use printed::inner::lines;
 use tables::Answer;
 
 // The bytes of the lines gone through, and whether a write has failed.

@@ -1,7 +1,7 @@
 -- The first line, then those of all steps.
 use native.Mathlib.Omega.{arith}
 use borrow.Author.Needs.{needs}
-use Rattle.normal.proofs.Input.{input-kept}
+use Rattle.printed.proofs.Input.{input-kept}
 use Rattle.normal.proofs.Printed.{plan-counted}
 use Rattle.normal.proofs.inner.print.print_plan.Statement.{statement}
 use Rattle.normal.proofs.inner.print.print_plan.Tie as tie

@@ -6,7 +6,7 @@ use native.Mathlib.Omega.{arith}
 use lib.ListN.{length}
 use Rattle.tables.proofs.Sum.{Summed}
 use Rattle.tables.proofs.Sets.{all}
-use Rattle.normal.specs.Text.{planLine}
+use Rattle.printed.specs.Text.{planLine}
 use Rattle.normal.proofs.Printed.{step-counted}
 use Rattle.normal.proofs.inner.print.print_step.Statement.{statement}
 use Rattle.normal.proofs.inner.print.print_step.Tie as tie

@@ -6,7 +6,7 @@ use native.Mathlib.Omega.{arith}
 use lib.ListN.{length}
 use Rattle.tables.proofs.Sum.{Summed}
 use Rattle.tables.proofs.Sets.{all}
-use Rattle.normal.specs.Text.{stepText}
+use Rattle.printed.specs.Text.{stepText}
 use Rattle.normal.proofs.Printed.{steps-counted}
 use Rattle.normal.proofs.inner.print.print_steps.Statement.{statement}
 use Rattle.normal.proofs.inner.print.print_steps.Tie as tie

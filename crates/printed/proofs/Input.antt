@@ -1,0 +1,255 @@
+-- Laws of the input's answer: each case as a branch of the code meets it, and what an accepted input keeps.
+use Prim.Native.Nat.{ℕ, suc, _+_, _-_, _*_, _/_, _%_, _≤_, _<_}
+use mathlib.Core.Bool.{Bool, true, false, _&&_, and-true}
+use mathlib.Core.List.{List}
+use mathlib.Core.Logic.{_≢_}
+use mathlib.Core.Path.{_≡_, refl, sym, ap, ap₂, subst, subst₂, _∙_}
+use native.Mathlib.Omega.{arith}
+use borrow.Author.Tests.{le-leb, lt-leb, eq-eqb, ne-eqb, leb-true, eqb-true}
+use lib.Dec.{leb, eqb}
+use lib.ListN.{length, getD, take, drop, length-drop}
+use lib.Seq.{take-all}
+use Rattle.tables.specs.declared.Answer.{Answer}
+use Rattle.tables.specs.declared.Answer.the-variants.{Accepted, Refused}
+use Rattle.tables.specs.Answer.{orElse, sized}
+use Rattle.tables.proofs.Answers.{orElse-accepts, refusal-unless}
+use Rattle.tables.proofs.Tabulate.{tabulate-at}
+use Rattle.road.specs.Corridor.{Road}
+use Rattle.road.specs.Run.{cost}
+use Rattle.lists.specs.Words.{linksOf, stepsOf, roadOf, recordWidth, traceOf, corridorLength, demandsLength, traceLength, recordLength}
+use Rattle.faults.specs.Lists.{within}
+use Rattle.lists.proofs.Limits.{sized-iff}
+use Rattle.faults.proofs.Tests.{within-holds}
+use Rattle.convert.proofs.Facts.{judged-iff}
+use Rattle.payload.specs.File.{blocksFor, wordIn, payloadWord}
+use Rattle.payload.specs.Reading.{tested}
+use Rattle.block.specs.Kinds.{Told}
+use Rattle.block.specs.Calls.{toldFits}
+use Rattle.files.specs.Files.{corridorIn, demandsIn, recordIn, readThenCheck}
+use Rattle.files.specs.Fits.{FilesFit, Accepts}
+use Rattle.files.proofs.Answers.{accepts}
+use Rattle.files.proofs.Contents.{own-links, own-steps}
+use Rattle.printed.specs.declared.inner.input.Layout.{Layout}
+use Rattle.printed.specs.Input.{linksIn, stepsIn, demandsBlock, recordBlock, endBlock, corridorFile, demandsFile, recordFile, inputAnswer}
+use Rattle.printed.specs.Fits.{filesLeft, stepsLeft, Laid, statedCost}
+
+-- ---- a test, then the rest: x + 1 is the number of its refusal
+
+test-fails : (x : ℕ) (t : Bool) (rest : Answer) → t ≡ false → Refused (suc x) 0 0 ≡ orElse (tested t (suc x) 0) rest
+test-fails x t rest h = ap (λ (b : Bool). orElse (tested b (suc x) 0) rest) (sym h)
+
+test-holds : (x : ℕ) (t : Bool) (rest : Answer) → t ≡ true → rest ≡ orElse (tested t (suc x) 0) rest
+test-holds x t rest h = ap (λ (b : Bool). orElse (tested b (suc x) 0) rest) (sym h)
+
+-- ---- N beside a K that is good, and K beside an N that is
+
+links-told : (n : ℕ) → toldFits n 1 ≡ within 1 64 n
+unfolding toldFits
+links-told n = and-true (within 1 64 n)
+
+links-good : (n : ℕ) → Told n 1 → within 1 64 n ≡ true
+links-good n t = within-holds 1 64 n .1 (record { above = t .linksLow; below = t .linksHigh })
+
+steps-told : (n k : ℕ) → Told n 1 → toldFits n k ≡ within 1 1440 k
+unfolding toldFits
+steps-told n k t = ap (λ (b : Bool). b && within 1 1440 k) (links-good n t)
+
+-- ---- the whole answer: a is what the code returns, and t what the test of N answered
+
+module _ (input : List ℕ) (a : Answer) where
+  pub input-long : a ≡ Refused 14 0 0 → 65536 < length input → a ≡ inputAnswer input
+  unfolding inputAnswer
+  input-long e h = e ∙ test-fails 13 _ _ (lt-leb (length input) 65536 h)
+
+  module _ (few : length input ≤ 65536) where
+    pub input-short : a ≡ Refused 14 0 0 → length input < 12 → a ≡ inputAnswer input
+    unfolding inputAnswer
+    input-short e h = e ∙ test-fails 13 _ _ (lt-leb 12 (length input) h) ∙ test-holds 13 _ _ (le-leb (length input) 65536 few)
+
+    module _ (holds : 12 ≤ length input) (n : ℕ) (is : n ≡ linksIn input) (t : Bool) (e : t ≡ toldFits n 1) where
+      links-answer : t ≡ within 1 64 (linksIn input)
+      links-answer = e ∙ links-told n ∙ ap (within 1 64) is
+
+      pub input-unlinked : a ≡ Refused 1 0 0 → t ≡ false → a ≡ inputAnswer input
+      unfolding inputAnswer
+      input-unlinked q h =
+          q ∙ test-fails 0 _ _ (sym links-answer ∙ h) ∙ test-holds 13 _ _ (le-leb 12 (length input) holds) ∙ test-holds 13 _ _ (le-leb (length input) 65536 few)
+
+      pub input-linked : a ≡ stepsLeft input → t ≡ true → a ≡ inputAnswer input
+      unfolding inputAnswer
+      input-linked q h =
+          q ∙ test-holds 0 _ _ (sym links-answer ∙ h) ∙ test-holds 13 _ _ (le-leb 12 (length input) holds) ∙ test-holds 13 _ _ (le-leb (length input) 65536 few)
+
+-- ---- once N is good: block is where the demands start, k the word there, and t what the test of both answered
+
+module _ (input : List ℕ) (n : ℕ) (is : n ≡ linksIn input) (block : ℕ) (b : block ≡ blocksFor (corridorLength n)) where
+  start : block ≡ demandsBlock input
+  unfolding demandsBlock
+  start = b ∙ ap (λ (x : ℕ). blocksFor (corridorLength x)) is
+
+  pub steps-short : (a : Answer) → a ≡ Refused 14 0 0 → length input < block * 512 + 12 → a ≡ stepsLeft input
+  steps-short a e h = e ∙ test-fails 13 _ _ (subst (λ (x : ℕ). leb (x * 512 + 12) (length input) ≡ false) start (lt-leb (block * 512 + 12) (length input) h))
+
+  pub steps-are : (k : ℕ) → k ≡ wordIn input block 2 → k ≡ stepsIn input
+  unfolding stepsIn
+  steps-are k word = word ∙ ap (λ (x : ℕ). wordIn input x 2) start
+
+  module _ (told : Told n 1) (holds : block * 512 + 12 ≤ length input) (k : ℕ) (word : k ≡ wordIn input block 2) (a : Answer) where
+    passed : leb (demandsBlock input * 512 + 12) (length input) ≡ true
+    passed = subst (λ (x : ℕ). leb (x * 512 + 12) (length input) ≡ true) start (le-leb (block * 512 + 12) (length input) holds)
+
+    module _ (t : Bool) (e : t ≡ toldFits n k) where
+      steps-answer : t ≡ within 1 1440 (stepsIn input)
+      steps-answer = e ∙ steps-told n k told ∙ ap (within 1 1440) (steps-are k word)
+
+      pub steps-bad : a ≡ Refused 1 0 0 → t ≡ false → a ≡ stepsLeft input
+      steps-bad q h = q ∙ test-fails 0 _ _ (sym steps-answer ∙ h) ∙ test-holds 13 _ _ passed
+
+      pub steps-good : a ≡ filesLeft input → t ≡ true → a ≡ stepsLeft input
+      steps-good q h = q ∙ test-holds 0 _ _ (sym steps-answer ∙ h) ∙ test-holds 13 _ _ passed
+
+-- ---- once K is good: where the files stand
+
+-- what is left of an input from a place on
+rest-is : (at : ℕ) (input : List ℕ) → take (length input - at) (drop at input) ≡ drop at input
+rest-is at input = take-all (length input - at) (drop at input) (simp length-drop (omega arith))
+
+module _ (input : List ℕ) (n k : ℕ) (links : n ≡ linksIn input) (steps : k ≡ stepsIn input) (at : Layout) (laid : Laid n k at) where
+  demands-at : at .demands ≡ demandsBlock input * 512
+  unfolding demandsBlock
+  demands-at = laid .demands ∙ ap (λ (x : ℕ). blocksFor (corridorLength x) * 512) links
+
+  record-at : at .recorded ≡ recordBlock input * 512
+  unfolding recordBlock demandsBlock
+  record-at = laid .recorded ∙ ap₂ (λ (x y : ℕ). (blocksFor (corridorLength x) + blocksFor (demandsLength x y)) * 512) links steps
+
+  end-at : at .end ≡ endBlock input * 512
+  unfolding endBlock recordBlock demandsBlock
+  end-at = laid .end ∙ ap₂ (λ (x y : ℕ). (blocksFor (corridorLength x) + blocksFor (demandsLength x y) + blocksFor (recordLength recordWidth x y)) * 512) links steps
+
+  -- the files as the code lends them are the input's, whatever is asked of them
+  parts-are {ℓ} : {X : Type ℓ} (f : ℕ → ℕ → List ℕ → List ℕ → List ℕ → X)
+      → f n k (take (at .demands) input) (take (at .recorded - at .demands) (drop (at .demands) input)) (take (length input - at .recorded) (drop (at .recorded) input))
+      ≡ f (linksIn input) (stepsIn input) (corridorFile input) (demandsFile input) (recordFile input)
+  parts-are f =
+      λ z.
+      f (links z) (steps z) (take (demands-at z) input) (take (record-at z - demands-at z) (drop (demands-at z) input))
+      ((rest-is (at .recorded) input ∙ ap (λ (x : ℕ). drop x input) record-at) z)
+
+  module _ (a : Answer) where
+    pub files-left-over : a ≡ Refused 14 0 0 → length input ≢ at .end → a ≡ filesLeft input
+    files-left-over e h = e ∙ test-fails 13 _ _ (ne-eqb (length input) (endBlock input * 512) (λ q. h (q ∙ sym end-at)))
+
+    pub files-read : length input ≡ at .end
+        → a ≡ readThenCheck n k (take (at .demands) input) (take (at .recorded - at .demands) (drop (at .demands) input)) (take (length input - at .recorded) (drop (at .recorded) input))
+        → a ≡ filesLeft input
+    files-read h e = e ∙ parts-are readThenCheck ∙ test-holds 13 _ _ (eq-eqb (length input) (endBlock input * 512) (h ∙ end-at))
+
+-- ---- what an accepted input keeps
+
+pub record Kept (input : List ℕ) : Type 0 where
+  pub whole : length input ≡ endBlock input * 512
+  pub some : 12 ≤ length input
+  pub holds : demandsBlock input * 512 + 12 ≤ length input
+  pub told : Told (linksIn input) (stepsIn input)
+  pub fit : FilesFit (linksIn input) (stepsIn input) (corridorFile input) (demandsFile input) (recordFile input)
+  pub accepted : Accepts (linksIn input) (stepsIn input) (corridorFile input) (demandsFile input) (recordFile input)
+
+pub input-kept : (input : List ℕ) → inputAnswer input ≡ Accepted → Kept input
+unfolding inputAnswer
+input-kept input e =
+    let a = orElse-accepts (tested (leb (length input) 65536) 14 0) _ .0 e in
+    let b = orElse-accepts (tested (leb 12 (length input)) 14 0) _ .0 (a .1) in
+    let c = orElse-accepts (sized (within 1 64 (linksIn input))) _ .0 (b .1) in
+    let d = orElse-accepts (tested (leb (demandsBlock input * 512 + 12) (length input)) 14 0) _ .0 (c .1) in
+    let f = orElse-accepts (sized (within 1 1440 (stepsIn input))) _ .0 (d .1) in
+    let g = orElse-accepts (tested (eqb (length input) (endBlock input * 512)) 14 0) _ .0 (f .1) in
+    let links = within-holds 1 64 (linksIn input) .0 (sized-iff _ .0 (c .0)) in
+    let steps = within-holds 1 1440 (stepsIn input) .0 (sized-iff _ .0 (f .0)) in
+    let told : Told (linksIn input) (stepsIn input) =
+    record { linksLow = links .above; linksHigh = links .below; stepsLow = steps .above; stepsHigh = steps .below } in
+    let h = accepts (linksIn input) (stepsIn input) (corridorFile input) (demandsFile input) (recordFile input) _ told refl (g .1) in
+    record {
+      whole = eqb-true _ _ (refusal-unless _ 14 0 0 (λ z. omega arith) .0 (g .0));
+      some = leb-true _ _ (refusal-unless _ 14 0 0 (λ z. omega arith) .0 (b .0));
+      holds = leb-true _ _ (refusal-unless _ 14 0 0 (λ z. omega arith) .0 (d .0));
+      told = told;
+      fit = h .0;
+      accepted = h .1;
+    }
+
+-- ---- an accepted input: what the reading of N and K asks
+
+module _ (input : List ℕ) (kept : Kept input) (n : ℕ) (links : n ≡ linksIn input) where
+  pub kept-links : Told n 1
+  kept-links =
+      record {
+        linksLow = omega (arith, kept .told .linksLow);
+        linksHigh = omega (arith, kept .told .linksHigh);
+        stepsLow = omega arith;
+        stepsHigh = omega arith;
+      }
+
+  module _ (block : ℕ) (b : block ≡ blocksFor (corridorLength n)) where
+    pub kept-block : block * 512 + 12 ≤ length input
+    unfolding demandsBlock
+    kept-block = omega (arith, kept .holds)
+
+    module _ (k : ℕ) (word : k ≡ wordIn input block 2) where
+      steps : k ≡ stepsIn input
+      steps = steps-are input n links block b k word
+
+      pub kept-steps : Told n k
+      kept-steps = subst₂ Told (sym links) (sym steps) (kept .told)
+
+      pub kept-laid : (at : Layout) → Laid n k at → Laid (linksIn input) (stepsIn input) at
+      kept-laid at laid = subst₂ (λ (x y : ℕ). Laid x y at) links steps laid
+
+-- ---- its files, as the code lends them: what holds of the one holds of the other
+
+module _ (input : List ℕ) (kept : Kept input) (at : Layout) (laid : Laid (linksIn input) (stepsIn input) at) where
+  pub in-order : (at .demands ≤ at .recorded) × (at .recorded ≤ length input)
+  unfolding endBlock recordBlock demandsBlock
+  in-order = (omega (arith, laid .demands, laid .recorded), omega (arith, laid .recorded, kept .whole))
+
+  laid-again : Laid (at .links) (at .steps) at
+  laid-again = subst₂ (λ (n k : ℕ). Laid n k at) (sym (laid .links)) (sym (laid .steps)) laid
+
+  module _ (P : ℕ → ℕ → List ℕ → List ℕ → List ℕ → Type 0) where
+    pub lent : P (linksIn input) (stepsIn input) (corridorFile input) (demandsFile input) (recordFile input)
+        → P (at .links) (at .steps) (take (at .demands) input) (take (at .recorded - at .demands) (drop (at .demands) input)) (take (length input - at .recorded) (drop (at .recorded) input))
+    lent h = coe 1 0 (z. parts-are input (at .links) (at .steps) (laid .links) (laid .steps) at laid-again P z) h
+
+    pub lent-back : P (at .links) (at .steps) (take (at .demands) input) (take (at .recorded - at .demands) (drop (at .demands) input)) (take (length input - at .recorded) (drop (at .recorded) input))
+        → P (linksIn input) (stepsIn input) (corridorFile input) (demandsFile input) (recordFile input)
+    lent-back h = coe 0 1 (z. parts-are input (at .links) (at .steps) (laid .links) (laid .steps) at laid-again P z) h
+
+-- ---- the cost that an accepted record states
+
+-- low and high are the two words as the code has them
+pub stated-told : (links steps at w low high : ℕ) (file : List ℕ) → at ≡ (steps + 1) * w → w ≡ suc links * recordWidth → low ≡ payloadWord file at → high ≡ payloadWord file (at + 1)
+    → high * 4294967296 + low ≡ statedCost links steps file
+stated-told links steps at w low high file e q l h =
+    let p : at ≡ traceLength recordWidth links steps = omega (arith, ap (λ (x : ℕ). (steps + 1) * x) q) in
+    ap₂ (λ (x y : ℕ). x * 4294967296 + y) (h ∙ ap (λ (n : ℕ). payloadWord file (n + 1)) p) (l ∙ ap (payloadWord file) p)
+
+pub cost-stated : (links steps : ℕ) (corridor demands recorded : List ℕ) → FilesFit links steps corridor demands recorded → Accepts links steps corridor demands recorded
+    → statedCost links steps recorded
+    ≡ cost (roadOf (corridorIn links corridor) (demandsIn links steps demands))
+    (traceOf recordWidth (roadOf (corridorIn links corridor) (demandsIn links steps demands)) (recordIn recordWidth links steps recorded))
+unfolding roadOf
+cost-stated links steps corridor demands recorded fit accepted =
+    let road : Road = roadOf (corridorIn links corridor) (demandsIn links steps demands) in
+    let total : ℕ = cost road (traceOf recordWidth road (recordIn recordWidth links steps recorded)) in
+    let costs = judged-iff recordWidth road (recordIn recordWidth links steps recorded) .0 (accepted .judges) .costs in
+    let place : traceLength recordWidth links steps ≡ traceLength recordWidth (linksOf (corridorIn links corridor)) (stepsOf (demandsIn links steps demands)) =
+    sym (ap₂ (traceLength recordWidth) (own-links links steps corridor demands recorded fit) (own-steps links steps corridor demands recorded fit)) in
+    let low : payloadWord recorded (traceLength recordWidth links steps) ≡ total % 4294967296 =
+    sym (tabulate-at (recordLength recordWidth links steps) (payloadWord recorded) (traceLength recordWidth links steps) 0 (omega arith))
+    ∙ ap (λ (n : ℕ). getD (recordIn recordWidth links steps recorded) n 0) place
+    ∙ costs .low in
+    let high : payloadWord recorded (traceLength recordWidth links steps + 1) ≡ total / 4294967296 =
+    sym (tabulate-at (recordLength recordWidth links steps) (payloadWord recorded) (traceLength recordWidth links steps + 1) 0 (omega arith))
+    ∙ ap (λ (n : ℕ). getD (recordIn recordWidth links steps recorded) (n + 1) 0) place
+    ∙ costs .high in
+    omega arith

@@ -1,0 +1,48 @@
+-- The corridor's words are unpacked, and the setting is that of the files.
+use native.Mathlib.Omega.{arith}
+use lib.ListN.{length-take}
+use borrow.Author.Needs.{needs}
+use Rattle.files.proofs.Contents.{corridor-read, list-corridor, list-kept}
+use Rattle.printed.specs.Text.{filesLine}
+use Rattle.printed.proofs.Text.{line-read}
+use Rattle.printed.proofs.inner.lines.files_line.Statement.{statement}
+use Rattle.printed.proofs.inner.lines.files_line.Tie as tie
+
+setting-of-requires : tie.Need-setting-of-requires
+setting-of-requires c κs =
+    let u = c .before .before .before in
+    let k = u .before .before .before .before .before .before .before in
+    let fit = k .pre .0 in
+    (list-kept _ _ _ _ _ fit _ _ (u .unpack .ensures) (simp length-take (omega (arith, fit .told .linksHigh))) (k .pre .1 .0), (k .pre .1 .1 .0, k .pre .1 .1 .1))
+
+node-line-requires : tie.Need-node-line-requires
+node-line-requires c κs =
+    let u = c .before .before .before .before .before .before in
+    let k = u .before .before .before .before .before .before .before in
+    let fit = k .pre .0 in
+    (omega (arith, list-corridor _ _ _ _ _ fit _ _ (u .unpack .ensures) (simp length-take (omega (arith, fit .told .linksHigh))) .words, k .pre .1 .1 .1), k .pre .1 .1 .2)
+
+returns : tie.Need-returns
+unfolding filesLine
+returns c =
+    let n = c .before .before .before in
+    let s = n .before .before .before in
+    let u = s .before .before .before .before in
+    let k = u .before .before .before .before .before .before .before in
+    let fit = k .pre .0 in
+    (line-read _ _ _ _ _ _ _ _ (corridor-read _ _ _ _ _ fit _ _ (u .unpack .ensures) (simp length-take (omega (arith, fit .told .linksHigh)))) (s .setting-of .ensures) (n .node-line .ensures .0), n .node-line .ensures .1)
+
+pub files-line-spec : {M : Type 1} → statement M
+files-line-spec =
+    tie.close
+    (tie.spec
+    (λ c. search needs)
+    (λ c. search needs)
+    (λ c. search needs)
+    (λ c. search needs)
+    (λ c. simp length-take (omega arith))
+    (λ c κs. simp length-take (omega arith))
+    setting-of-requires
+    node-line-requires
+    (λ c. search needs)
+    returns)

@@ -1,0 +1,116 @@
+// The answer to an input: N and K are taken from the files themselves, then the files are read in turn and the record is checked.
+ghost use mathlib.Core.Path.{_≡_};
+ghost use Prim.Native.Nat.{_≤_};
+ghost use lib.ListN.{length};
+ghost use Rattle.tables.specs.declared.Answer.the-variants.{Accepted};
+ghost use Rattle.payload.specs.File.{blocksFor};
+ghost use Rattle.block.specs.Kinds.{Told, listLength};
+ghost use Rattle.printed.specs.Input.{linksIn, stepsIn, inputAnswer};
+ghost use Rattle.printed.specs.Fits.{filesLeft, stepsLeft, Laid};
+use block::Kind;
+use block::inner::calls;
+use block::inner::kinds;
+use files::inner::answers;
+use payload::inner::reading;
+use payload::inner::words;
+use tables::Answer;
+use tables::refusal;
+
+// N, K and the places in bytes where the demands start, where the record starts and where it ends.
+pub struct Layout {
+    pub links: u32,
+    pub steps: u32,
+    pub demands: usize,
+    pub recorded: usize,
+    pub end: usize,
+}
+
+// How many blocks a kind's file has.
+fn blocks_of(kind: Kind, n: u32, k: u32) -> usize
+    requires { ⌜ Told n k ⌝ }
+    ensures { λ r. ⌜ (r ≡ blocksFor (listLength kind n k)) × (r ≤ 2998) ⌝ }
+{
+    reading::blocks_for(kinds::length_of(kind, n, k))
+}
+
+// Where the files stand.
+fn layout_of(n: u32, k: u32) -> Layout
+    requires { ⌜ Told n k ⌝ }
+    ensures { λ r. ⌜ Laid n k r ⌝ }
+{
+    let demands = blocks_of(Kind::Corridor, n, k) * 512;
+    let recorded = demands + blocks_of(Kind::Demands, n, k) * 512;
+    let end = recorded + blocks_of(Kind::Record, n, k) * 512;
+    Layout {
+        links: n,
+        steps: k,
+        demands,
+        recorded,
+        end,
+    }
+}
+
+// Where the files of an accepted input stand.
+pub fn layout_in(input: &[u8]) -> Layout
+    requires { ⌜ inputAnswer (now input) ≡ Accepted ⌝ }
+    ensures { λ r. ⌜ Laid (linksIn (now (input .entry))) (stepsIn (now (input .entry))) r ⌝ }
+{
+    let n = words::word_at(input, 2);
+    let block = blocks_of(Kind::Corridor, n, 1);
+    layout_of(n, words::word_at(input, block * 128 + 2))
+}
+
+// What is left to refuse once N and K are good.
+fn files_left(input: &[u8], n: u32, k: u32) -> Answer
+    requires { ⌜ Told n k ⌝ }
+    requires { ⌜ (n ≡ linksIn (now input)) × (k ≡ stepsIn (now input)) ⌝ }
+    ensures { λ r. ⌜ r ≡ filesLeft (now (input .entry)) ⌝ }
+{
+    let at = layout_of(n, k);
+    let demands = at.demands;
+    let recorded = at.recorded;
+    if input.len() == at.end {
+        return answers::read_then_check(
+            n,
+            k,
+            &input[..demands],
+            &input[demands..recorded],
+            &input[recorded..],
+        );
+    }
+    refusal(14, 0, 0)
+}
+
+// What is left to refuse once N is good.
+fn steps_left(input: &[u8], n: u32) -> Answer
+    requires { ⌜ Told n 1 ⌝ }
+    requires { ⌜ n ≡ linksIn (now input) ⌝ }
+    ensures { λ r. ⌜ r ≡ stepsLeft (now (input .entry)) ⌝ }
+{
+    let block = blocks_of(Kind::Corridor, n, 1);
+    if input.len() < block * 512 + 12 {
+        return refusal(14, 0, 0);
+    }
+    let k = words::word_at(input, block * 128 + 2);
+    if calls::told_fits(n, k) {
+        return files_left(input, n, k);
+    }
+    refusal(1, 0, 0)
+}
+
+// The answer to an input of any length. N is tested beside a K that is good.
+pub fn input_answer(input: &[u8]) -> Answer
+    ensures { λ r. ⌜ r ≡ inputAnswer (now (input .entry)) ⌝ }
+{
+    if input.len() > 65536 {
+        return refusal(14, 0, 0);
+    }
+    if input.len() < 12 {
+        return refusal(14, 0, 0);
+    }
+    let n = words::word_at(input, 2);
+    if calls::told_fits(n, 1) {
+        return steps_left(input, n);
+    }
+    refusal(1, 0, 0)
+}
