@@ -1,12 +1,10 @@
--- What is printed: a line that is handed over is as long as its text, lines by index, one after another, as long as their lengths in sum; and the
--- text of a cut input.
-use Prim.Native.Nat.{ℕ, zero, suc, _+_, _*_, _<_, _≤_}
+-- What is printed: a line that is handed over is as long as its text, and lines by index, one after another, as long as their lengths in sum.
+use Prim.Native.Nat.{ℕ, zero, suc, _+_, _*_, _≤_}
 use mathlib.Core.Bool.{Bool}
 use mathlib.Core.List.{List}
 use mathlib.Core.Path.{_≡_, refl, sym, ap, subst, _∙_}
 use native.Mathlib.Omega.{arith}
 use lib.ListN.{length, length-append, take}
-use lib.Seq.{length-take-le}
 use Rattle.io.specs.Counts.{Counts}
 use Rattle.tables.specs.declared.Answer.{Answer}
 use Rattle.tables.specs.declared.Answer.the-variants.{Accepted, Refused}
@@ -16,7 +14,6 @@ use Rattle.normal.specs.declared.inner.print.Given.{Given}
 use Rattle.normal.specs.Fits.{Gives}
 use Rattle.printed.specs.Input.{linksIn, stepsIn, inputAnswer}
 use Rattle.printed.specs.Text.{headLine, refusedLine, planLine, linesOf, stepText, planText, textFor, printed}
-use Rattle.printed.proofs.Input.{input-long}
 
 -- a line of n bytes that was put into a buffer of at most b, where the buffer's part with the line was handed over
 pub line-given : (n b : ℕ) (out text : List ℕ) (failed : Bool) (given : Given) → (take n out ≡ text) × Counts n out → length out ≤ b → Gives (take n out) failed given
@@ -61,13 +58,3 @@ module _ (input : List ℕ) (answer : Answer) (told : answer ≡ inputAnswer inp
   pub refused-counted : (number row node : ℕ) → answer ≡ Refused number row node → r ≡ length (refusedLine number row node) → r ≡ length (printed input)
   unfolding printed
   refused-counted number row node e h = h ∙ ap (λ (a : Answer). length (textFor a input)) (sym e ∙ told)
-
--- an input above 65,536 bytes is refused by 14
-long-printed : (input : List ℕ) → 65536 < length input → printed input ≡ refusedLine 14 0 0
-unfolding printed
-long-printed input h = ap (λ (a : Answer). textFor a input) (sym (input-long input (Refused 14 0 0) refl h))
-
--- so what is printed for its first 65,537 bytes is what is to be printed for all of it
-pub cut-printed : (input : List ℕ) → 65536 < length input → printed (take 65537 input) ≡ printed input
-cut-printed input h =
-    long-printed (take 65537 input) (omega (arith, length-take-le 65537 input (omega (arith, h)))) ∙ sym (long-printed input h)

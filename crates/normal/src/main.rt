@@ -9,7 +9,7 @@ use inner::receive;
 use inner::receive::Received;
 use libc::STDERR_FILENO;
 
-// Room for one byte more than is taken: of a longer input its first 65,537 bytes are refused as it is (`cut-printed` of proofs/Printed.antt).
+// Room for one byte more than is taken: of a longer input its first 65,537 bytes are refused as it is (`cut-printed` of crates/printed).
 fn input_room() -> [u8; 65537]
     ensures { λ r. ⌜ 65537 ≡ length r ⌝ }
 {

@@ -8,7 +8,7 @@ use native.Mathlib.Omega.{arith}
 use borrow.Author.Tests.{le-leb, lt-leb, eq-eqb, ne-eqb, leb-true, eqb-true}
 use lib.Dec.{leb, eqb}
 use lib.ListN.{length, getD, take, drop, length-drop}
-use lib.Seq.{take-all}
+use lib.Seq.{take-all, length-take-le}
 use Rattle.tables.specs.declared.Answer.{Answer}
 use Rattle.tables.specs.declared.Answer.the-variants.{Accepted, Refused}
 use Rattle.tables.specs.Answer.{orElse, sized}
@@ -31,6 +31,7 @@ use Rattle.files.proofs.Answers.{accepts}
 use Rattle.files.proofs.Contents.{own-links, own-steps}
 use Rattle.printed.specs.declared.inner.input.Layout.{Layout}
 use Rattle.printed.specs.Input.{linksIn, stepsIn, demandsBlock, recordBlock, endBlock, corridorFile, demandsFile, recordFile, inputAnswer}
+use Rattle.printed.specs.Text.{refusedLine, textFor, printed}
 use Rattle.printed.specs.Fits.{filesLeft, stepsLeft, Laid, statedCost}
 
 -- ---- a test, then the rest: x + 1 is the number of its refusal
@@ -253,3 +254,15 @@ cost-stated links steps corridor demands recorded fit accepted =
     ∙ ap (λ (n : ℕ). getD (recordIn recordWidth links steps recorded) (n + 1) 0) place
     ∙ costs .high in
     omega arith
+
+-- ---- an input that is too long
+
+-- it is refused by 14
+long-printed : (input : List ℕ) → 65536 < length input → printed input ≡ refusedLine 14 0 0
+unfolding printed
+long-printed input h = ap (λ (a : Answer). textFor a input) (sym (input-long input (Refused 14 0 0) refl h))
+
+-- so what is printed for its first 65,537 bytes is what is to be printed for all of it
+pub cut-printed : (input : List ℕ) → 65536 < length input → printed (take 65537 input) ≡ printed input
+cut-printed input h =
+    long-printed (take 65537 input) (omega (arith, length-take-le 65537 input (omega (arith, h)))) ∙ sym (long-printed input h)
