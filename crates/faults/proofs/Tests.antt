@@ -1,8 +1,8 @@
 -- Tests as facts: what a test that holds says, and what it takes to hold.
 use Prim.Native.Nat.{ℕ, _≤_}
-use mathlib.Core.Bool.{Bool, true, false, not, _&&_, true≢false}
+use mathlib.Core.Bool.{Bool, true, false, not, _&&_, _||_, true≢false}
 use mathlib.Core.Path.{_≡_, refl, sym, _∙_}
-use mathlib.Core.Logic.{_↔_, _≢_}
+use mathlib.Core.Logic.{_↔_, _≢_, _⊎_, inl, inr, ⊎-elim}
 use borrow.Author.Tests.{leb-true, le-leb, eqb-true, eq-eqb, not-true, not-false}
 use lib.Dec.{leb, eqb}
 use Rattle.tables.specs.Answer.{unless}
@@ -20,6 +20,11 @@ eq-holds a b = (eqb-true a b, eq-eqb a b)
 pub both-hold : {A B : Type 0} (a b : Bool) → (a ≡ true) ↔ A → (b ≡ true) ↔ B → ((a && b) ≡ true) ↔ (A × B)
 both-hold true b p q = (λ e. (p .0 refl, q .0 e), λ h. q .1 (h .1))
 both-hold false b p q = (λ e. absurd (true≢false (sym e)), λ h. p .1 (h .0))
+
+-- one test or the other
+pub one-holds : {A B : Type 0} (a b : Bool) → (a ≡ true) ↔ A → (b ≡ true) ↔ B → ((a || b) ≡ true) ↔ (A ⊎ B)
+one-holds true b p q = (λ e. inl (p .0 refl), λ h. refl)
+one-holds false b p q = (λ e. inr (q .0 e), ⊎-elim (λ x. absurd (true≢false (sym (p .1 x)))) (λ y. q .1 y))
 
 -- a test that is asked only where another holds
 pub implies-holds : {A B : Type 0} (a b : Bool) → (a ≡ true) ↔ A → (b ≡ true) ↔ B → (implies a b ≡ true) ↔ (A → B)

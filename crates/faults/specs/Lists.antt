@@ -37,15 +37,15 @@ rampFault last identifier ramp isFresh =
 unfoldable pub startFault : Node → ℕ
 startFault node = unless (leb (node .start .vehicles) (node .link .jam) && leb (node .start .queue) (node .ramp .queueLimit)) 4
 
--- ---- 5. Q or b out of range or not zero where fixed
+-- ---- 5. Q or b out of range or not zero where fixed; at node N also the flow that may leave link N out of range
 
-unfoldable pub demandFault : ℕ → ℕ → ℕ → ℕ → ℕ
-demandFault links i arrivals split =
+unfoldable pub demandFault : ℕ → ℕ → ℕ → ℕ → ℕ → ℕ
+demandFault links i arrivals split downstream =
     unless
     (leb arrivals 65536
     && (leb split 65536
     && (implies (eqb i 0) (eqb split 0)
-    && implies (eqb i links) (eqb split 0 && eqb arrivals 0))))
+    && implies (eqb i links) (eqb split 0 && (eqb arrivals 0 && leb downstream 65536)))))
     5
 
 -- ---- 6. plan out of bounds (V of node 0 and C of node N are zero, so its limit and its rate are)

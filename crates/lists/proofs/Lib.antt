@@ -1,4 +1,5 @@
 pub mod Rows
+pub mod Downstream
 pub mod Identifiers
 pub mod Scans
 pub mod Sizes

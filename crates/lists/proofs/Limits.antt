@@ -3,7 +3,7 @@ use Prim.Native.Nat.{ℕ, zero, suc, _≤_, _<_}
 use mathlib.Core.Bool.{Bool, true, false}
 use mathlib.Core.List.{List}
 use mathlib.Core.Path.{_≡_, refl, sym, subst}
-use mathlib.Core.Logic.{_↔_}
+use mathlib.Core.Logic.{_↔_, _⊎_}
 use native.Mathlib.Omega.{arith}
 use borrow.Author.Tests.{eq-eqb, ne-eqb}
 use lib.ListN.{length}
@@ -17,18 +17,26 @@ use Rattle.tables.proofs.Answers.{Refuses, orElse-accepts, refusal-unless}
 use Rattle.tables.proofs.First.{firstNode-accepts, firstPlace-accepts}
 use Rattle.road.specs.Corridor.{Link, Ramp, Node, Road, Plan, nodes}
 use Rattle.road.specs.Limits.{Within, LinkLimits, NoLink, RampLimits, NoRamp, StartLimits, Identified, DemandLimits, Limits, Bounds, Bounded}
-use Rattle.lists.specs.Words.{linksOf, stepsOf, roadOf, corridorLength, demandsLength}
+use Rattle.lists.specs.Words.{linksOf, stepsOf, roadOf, corridorLength, demandsLength, downstreamLength}
 use Rattle.faults.specs.Lists.{linkFault, rampFault, startFault, demandFault, planFault}
-use Rattle.lists.specs.Refusals.{sizes, fresh, linkRefusal, rampRefusal, startRefusal, demandRefusal, ranges, bounds, limits}
-use Rattle.faults.proofs.Tests.{le-holds, eq-holds, both-hold, implies-holds, within-holds, no-fault}
+use Rattle.lists.specs.Refusals.{demandsSized, sizes, fresh, linkRefusal, rampRefusal, startRefusal, demandRefusal, ranges, bounds, limits}
+use Rattle.faults.proofs.Tests.{le-holds, eq-holds, both-hold, one-holds, implies-holds, within-holds, no-fault}
 
 -- ---- 1. N, K and the lengths of the two lists
+
+-- the length of demands is that of kind 2, or that of kind 5
+abbrev pub DemandsSized : ℕ → ℕ → ℕ → Type 0
+DemandsSized links steps count = (count ≡ demandsLength links steps) ⊎ (count ≡ downstreamLength links steps)
+
+demands-sized-iff : (links steps count : ℕ) → (demandsSized links steps count ≡ true) ↔ DemandsSized links steps count
+unfolding demandsSized
+demands-sized-iff links steps count = one-holds _ _ (eq-holds count (demandsLength links steps)) (eq-holds count (downstreamLength links steps))
 
 pub record Sizes (corridor demands : List ℕ) : Type 0 where
   pub links : Within 1 64 (linksOf corridor)
   pub steps : Within 1 1440 (stepsOf demands)
   pub corridorFits : length corridor ≡ corridorLength (linksOf corridor)
-  pub demandsFit : length demands ≡ demandsLength (linksOf corridor) (stepsOf demands)
+  pub demandsFit : DemandsSized (linksOf corridor) (stepsOf demands) (length demands)
 
 pub sizes-iff : (corridor demands : List ℕ) → (sizes corridor demands ≡ true) ↔ Sizes corridor demands
 unfolding sizes
@@ -36,7 +44,7 @@ sizes-iff corridor demands =
     let r = both-hold _ _ (within-holds 1 64 (linksOf corridor))
     (both-hold _ _ (within-holds 1 1440 (stepsOf demands))
     (both-hold _ _ (eq-holds (length corridor) (corridorLength (linksOf corridor)))
-    (eq-holds (length demands) (demandsLength (linksOf corridor) (stepsOf demands))))) in (
+    (demands-sized-iff (linksOf corridor) (stepsOf demands) (length demands)))) in (
       λ e. let h = r .0 e in record { links = h .0; steps = h .1 .0; corridorFits = h .1 .1 .0; demandsFit = h .1 .1 .1 },
       λ s. r .1 (s .links, (s .steps, (s .corridorFits, s .demandsFit))),
     )
@@ -183,7 +191,7 @@ starts-iff road =
 
 -- ---- 5. demands
 
-demand-iff : (road : Road) (k i : ℕ) → (demandFault (road .links) i (road .arrivals k i) (road .split k i) ≡ 0) ↔ DemandLimits road k i
+demand-iff : (road : Road) (k i : ℕ) → (demandFault (road .links) i (road .arrivals k i) (road .split k i) (road .downstream k) ≡ 0) ↔ DemandLimits road k i
 unfolding demandFault
 demand-iff road k i =
     let split : ℕ = road .split k i in
@@ -192,7 +200,7 @@ demand-iff road k i =
     (both-hold _ _ (le-holds arrivals 65536)
     (both-hold _ _ (le-holds split 65536)
     (both-hold _ _ (implies-holds _ _ (eq-holds i 0) (eq-holds split 0))
-    (implies-holds _ _ (eq-holds i (road .links)) (both-hold _ _ (eq-holds split 0) (eq-holds arrivals 0)))))) in (
+    (implies-holds _ _ (eq-holds i (road .links)) (both-hold _ _ (eq-holds split 0) (both-hold _ _ (eq-holds arrivals 0) (le-holds (road .downstream k) 65536))))))) in (
       λ e.
           let h = r .0 e in
           record {
@@ -200,15 +208,16 @@ demand-iff road k i =
             split = h .1 .0;
             entry = h .1 .1 .0;
             exitSplit = λ q. h .1 .1 .1 q .0;
-            exitArrivals = λ q. h .1 .1 .1 q .1;
+            exitArrivals = λ q. h .1 .1 .1 q .1 .0;
+            downstream = λ q. h .1 .1 .1 q .1 .1;
           },
-      λ s. r .1 (s .arrivals, (s .split, (s .entry, λ q. (s .exitSplit q, s .exitArrivals q)))),
+      λ s. r .1 (s .arrivals, (s .split, (s .entry, λ q. (s .exitSplit q, (s .exitArrivals q, s .downstream q))))),
     )
 
 pub demands-iff : (road : Road) → (demandRefusal road ≡ Accepted) ↔ ((k i : ℕ) → k < road .steps → i ≤ road .links → DemandLimits road k i)
 unfolding demandRefusal
 demands-iff road =
-    let r = firstPlace-accepts (road .steps) (nodes road) (λ k i. demandFault (road .links) i (road .arrivals k i) (road .split k i)) in (
+    let r = firstPlace-accepts (road .steps) (nodes road) (λ k i. demandFault (road .links) i (road .arrivals k i) (road .split k i) (road .downstream k)) in (
       λ e k i hk hi. demand-iff road k i .0 (r .0 e k i hk (omega arith)),
       λ s. r .1 (λ k i hk hi. demand-iff road k i .1 (s k i hk (omega arith))),
     )
@@ -269,7 +278,7 @@ bounds-iff road plan =
 
 pub record WithinLimits (corridor demands : List ℕ) : Type 0 where
   pub corridorFits : length corridor ≡ corridorLength (linksOf corridor)
-  pub demandsFit : length demands ≡ demandsLength (linksOf corridor) (stepsOf demands)
+  pub demandsFit : DemandsSized (linksOf corridor) (stepsOf demands) (length demands)
   pub road : Limits (roadOf corridor demands)
 
 pub limits-iff : (corridor demands : List ℕ) → (limits corridor demands ≡ Accepted) ↔ WithinLimits corridor demands

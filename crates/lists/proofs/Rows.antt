@@ -1,6 +1,6 @@
 -- Laws of a step's rows: a node's words lie in them, and what the code reads of the next link is the supply of a node.
 use Prim.Native.Nat.{ℕ, suc, _+_, _*_, _≤_, _<_}
-use mathlib.Core.Path.{_≡_, refl, sym, ap, ap₂, _∙_}
+use mathlib.Core.Path.{_≡_, sym, ap, ap₂, _∙_}
 use mathlib.Core.List.{List}
 use native.Mathlib.Numerals.{add-one}
 use native.Mathlib.Omega.{arith}
@@ -9,10 +9,10 @@ use Rattle.road.specs.declared.NodeState as states
 use Rattle.tables.proofs.Numbers.{row-fits}
 use Rattle.road.specs.Corridor.{Link, NodeState, Road}
 use Rattle.road.specs.Step.{receiving}
-use Rattle.road.specs.Run.{supply, FreeBeyond}
+use Rattle.road.specs.Run.{supply}
 use Rattle.road.specs.Values.{linkOf, stateOf}
 use Rattle.road.proofs.Runs.{supply-inside, supply-last}
-use Rattle.lists.specs.Words.{linksOf, nodeAt, roadOf}
+use Rattle.lists.specs.Words.{linksOf, nodeAt}
 use Rattle.lists.specs.Rows.{stateIn, stepRoad}
 use Rattle.lists.specs.Fits.{RowFits, NodeIn, JamKept}
 
@@ -53,8 +53,3 @@ supply-ends width corridor row demand downstream count i n a b =
     let e : linksOf corridor ≡ i = omega arith in
     let road : Road = stepRoad corridor demand downstream in
     sym (supply-last road 0 (stateIn width row)) ∙ ap (supply road 0 (stateIn width row)) e
-
--- document 01's "traffic past link N is always free", of the lists' road: so `exit-free` of crates/road holds for it
-pub free-beyond : (corridor demands : List ℕ) (k : ℕ) → FreeBeyond (roadOf corridor demands) k
-unfolding roadOf
-free-beyond corridor demands k = refl

@@ -15,7 +15,7 @@ use Rattle.tables.proofs.Answers.{Refuses, orElse-assoc, or-else-stop, or-else-
 use Rattle.tables.proofs.First.{Passed, passed-stop, passed-ended, first-same, firstPlace-same}
 use Rattle.tables.proofs.Part.{part-at}
 use Rattle.road.specs.Corridor as Road
-use Rattle.lists.specs.Words.{linksOf, stepsOf, nodeAt, roadOf, planOf}
+use Rattle.lists.specs.Words.{linksOf, stepsOf, nodeAt, free, roadOf, planOf}
 use Rattle.faults.specs.Lists.{linkFault, startFault, demandFault, planFault}
 use Rattle.lists.specs.Refusals.{linkRefusal, rampRefusal, startRefusal, demandRefusal, ranges, bounds, planBounds}
 use Rattle.lists.specs.declared.inner.scans.NodeTest.{NodeTest}
@@ -40,38 +40,42 @@ row-word l links skip k r i q e h b =
     let p : skip + r + (i * 2 + q) ≡ skip + place 2 (suc links) k i q = omega arith in
     part-at (skip + r) ((links + 1) * 2) l (i * 2 + q) 0 (omega arith) ∙ ap (λ (j : ℕ). getD l j 0) p
 
--- r is where row k begins after the words that are skipped
-pub row-told : (test : NodeTest) (corridor list : List ℕ) (links skip k r : ℕ) (a : Answer)
-    → a ≡ firstNode (suc links) k (nodeFaultIn test corridor links (take (skip + r + (links + 1) * 2 - (skip + r)) (drop (skip + r) list)))
-    → r ≡ k * ((links + 1) * 2) → a ≡ firstNode (suc links) k (nodeFaultAt test corridor links skip list k)
-row-told test corridor list links skip k r a e h =
+-- r is where row k begins after the words that are skipped, t how many words the rows have
+pub row-told : (test : NodeTest) (corridor list : List ℕ) (links steps skip k r t downstream : ℕ) (a : Answer)
+    → a ≡ firstNode (suc links) k (nodeFaultIn test corridor links (take (skip + r + (links + 1) * 2 - (skip + r)) (drop (skip + r) list)) downstream)
+    → r ≡ k * ((links + 1) * 2) → t ≡ steps * ((links + 1) * 2) → downstream ≡ getD list (skip + t + k) free
+    → a ≡ firstNode (suc links) k (nodeFaultAt test corridor links steps skip list k)
+row-told test corridor list links steps skip k r t downstream a e h g d =
+    let past : downstream ≡ getD list (skip + steps * (suc links * 2) + k) free =
+    d ∙ ap (λ (x : ℕ). getD list (skip + x + k) free) (g ∙ ap (λ (n : ℕ). steps * (n * 2)) (add-one links)) in
     e
     ∙ first-same (suc links) _ _
     (λ i l. ap (λ (x : ℕ). refusal x k i)
-    (ap₂ (nodeFault test corridor links i) (row-word list links skip k r i 0 h l (omega arith)) (row-word list links skip k r i 1 h l (omega arith))))
+    (λ z.
+    nodeFault test corridor links i (row-word list links skip k r i 0 h l (omega arith) z) (row-word list links skip k r i 1 h l (omega arith) z) (past z)))
 
 -- ---- what a test finds at a node: v is the number as the code has it
 
-module _ (test : NodeTest) (corridor : List ℕ) (links i first second v : ℕ) where
-  pub link-found : (link : Road.Link) → test ≡ Link → link ≡ nodeAt corridor i .link → v ≡ linkFault i link → v ≡ nodeFault test corridor links i first second
+module _ (test : NodeTest) (corridor : List ℕ) (links i first second downstream v : ℕ) where
+  pub link-found : (link : Road.Link) → test ≡ Link → link ≡ nodeAt corridor i .link → v ≡ linkFault i link → v ≡ nodeFault test corridor links i first second downstream
   unfolding nodeFault
-  link-found link t e h = h ∙ ap (linkFault i) e ∙ ap (λ (x : NodeTest). nodeFault x corridor links i first second) (sym t)
+  link-found link t e h = h ∙ ap (linkFault i) e ∙ ap (λ (x : NodeTest). nodeFault x corridor links i first second downstream) (sym t)
 
-  pub ramp-found : test ≡ Ramp → v ≡ nodeFault Ramp corridor links i 0 0 → v ≡ nodeFault test corridor links i first second
+  pub ramp-found : test ≡ Ramp → v ≡ nodeFault Ramp corridor links i 0 0 0 → v ≡ nodeFault test corridor links i first second downstream
   unfolding nodeFault
-  ramp-found t h = h ∙ ap (λ (x : NodeTest). nodeFault x corridor links i first second) (sym t)
+  ramp-found t h = h ∙ ap (λ (x : NodeTest). nodeFault x corridor links i first second downstream) (sym t)
 
-  pub start-found : test ≡ Start → v ≡ startFault (nodeAt corridor i) → v ≡ nodeFault test corridor links i first second
+  pub start-found : test ≡ Start → v ≡ startFault (nodeAt corridor i) → v ≡ nodeFault test corridor links i first second downstream
   unfolding nodeFault
-  start-found t h = h ∙ ap (λ (x : NodeTest). nodeFault x corridor links i first second) (sym t)
+  start-found t h = h ∙ ap (λ (x : NodeTest). nodeFault x corridor links i first second downstream) (sym t)
 
-  pub demand-found : test ≡ Demand → v ≡ demandFault links i first second → v ≡ nodeFault test corridor links i first second
+  pub demand-found : test ≡ Demand → v ≡ demandFault links i first second downstream → v ≡ nodeFault test corridor links i first second downstream
   unfolding nodeFault
-  demand-found t h = h ∙ ap (λ (x : NodeTest). nodeFault x corridor links i first second) (sym t)
+  demand-found t h = h ∙ ap (λ (x : NodeTest). nodeFault x corridor links i first second downstream) (sym t)
 
-  pub plan-found : test ≡ Plan → v ≡ planFault (nodeAt corridor i .link) (nodeAt corridor i .ramp) first second → v ≡ nodeFault test corridor links i first second
+  pub plan-found : test ≡ Plan → v ≡ planFault (nodeAt corridor i .link) (nodeAt corridor i .ramp) first second → v ≡ nodeFault test corridor links i first second downstream
   unfolding nodeFault
-  plan-found t h = h ∙ ap (λ (x : NodeTest). nodeFault x corridor links i first second) (sym t)
+  plan-found t h = h ∙ ap (λ (x : NodeTest). nodeFault x corridor links i first second downstream) (sym t)
 
 -- the row that it reads has the node's words
 pub demand-read : (test : NodeTest) (row : List ℕ) (links i : ℕ) → RowFor test row links → i ≤ links → test ≡ Demand → NodeIn 2 row i

@@ -1,33 +1,58 @@
 -- What the test of all lengths gives: the facts that the functions on the lists ask for.
-use Prim.Native.Nat.{ℕ, _+_, _≤_}
-use mathlib.Core.Bool.{Bool, true}
+use Prim.Native.Nat.{ℕ, _+_, _*_, _≤_}
+use mathlib.Core.Bool.{Bool, true, _||_}
 use mathlib.Core.Path.{_≡_, sym, ap, ap₂, _∙_}
 use mathlib.Core.List.{List}
-use native.Mathlib.Nat.{zero-add}
+use mathlib.Core.Logic.{⊎-elim}
+use native.Mathlib.Numerals.{add-one}
 use native.Mathlib.Omega.{arith}
+use borrow.Author.Tests.{eq-eqb, ne-eqb}
+use lib.Dec.{eqb}
 use lib.ListN.{length}
-use Rattle.lists.specs.Words.{linksOf, stepsOf, corridorLength, demandsLength, planLength}
-use Rattle.lists.specs.Refusals.{sizes}
+use Rattle.lists.specs.Words.{linksOf, stepsOf, corridorLength, demandsLength, downstreamLength, planLength}
+use Rattle.lists.specs.Refusals.{demandsSized, sizes}
 use Rattle.lists.specs.Fits.{CorridorFits, DemandsFit}
 use Rattle.lists.specs.Scans.{lengthsFit}
-use Rattle.lists.proofs.Limits.{sizes-iff}
+use Rattle.lists.proofs.Limits.{DemandsSized, sizes-iff}
 
 pub sizes-are : (corridor demands : List ℕ) (links steps : ℕ) (r : Bool) → links ≡ linksOf corridor → steps ≡ stepsOf demands
     → r ≡ lengthsFit links steps (length corridor) (length demands) → r ≡ sizes corridor demands
 unfolding sizes lengthsFit
 sizes-are corridor demands links steps r n k e = rw (← n, ← k) e
 
--- links and steps are N and K as the code has them
+-- ---- the two lengths of demands: `rows` is how many words the rows have, as the code counts them
+
+module _ (links steps count rows : ℕ) (e : rows ≡ steps * ((links + 1) * 2)) where
+  short-is : 1 + rows ≡ demandsLength links steps
+  short-is = ap (λ (n : ℕ). 1 + n) e ∙ ap (λ (n : ℕ). 1 + steps * (n * 2)) (add-one links)
+
+  pub short-sized : count ≡ 1 + rows → true ≡ demandsSized links steps count
+  unfolding demandsSized
+  short-sized h = ap (λ (t : Bool). t || eqb count (downstreamLength links steps)) (sym (eq-eqb _ _ (h ∙ short-is)))
+
+  pub long-sized : (count ≡ 1 + rows → ⊥) → eqb count (1 + rows + steps) ≡ demandsSized links steps count
+  unfolding demandsSized
+  long-sized h =
+      ap (λ (n : ℕ). eqb count (n + steps)) short-is
+      ∙ ap (λ (t : Bool). t || eqb count (downstreamLength links steps)) (sym (ne-eqb _ _ (λ q. h (q ∙ sym short-is))))
+
+-- ---- links and steps are N and K as the code has them
+
 pub corridor-fits : (corridor demands : List ℕ) (links : ℕ) → sizes corridor demands ≡ true → links ≡ linksOf corridor → CorridorFits corridor links
 corridor-fits corridor demands links e n =
     let s = sizes-iff corridor demands .0 e in
     record { first = n; few = omega (arith, s .links); words = s .corridorFits ∙ ap corridorLength (sym n) }
 
+-- either kind has the words of kind 2
+pub demands-long : (links steps count : ℕ) → DemandsSized links steps count → demandsLength links steps ≤ count
+demands-long links steps count s =
+    ⊎-elim (λ (e : count ≡ demandsLength links steps). omega arith) (λ (e : count ≡ downstreamLength links steps). omega arith) s
+
 pub demands-fit : (corridor demands : List ℕ) (links steps : ℕ) → sizes corridor demands ≡ true → links ≡ linksOf corridor → steps ≡ stepsOf demands
     → DemandsFit demands links steps
 demands-fit corridor demands links steps e n k =
     let s = sizes-iff corridor demands .0 e in
-    record { first = k; few = omega (arith, s .links); short = omega (arith, s .steps); words = s .demandsFit ∙ ap₂ demandsLength (sym n) (sym k) }
+    record { first = k; few = omega (arith, s .links); short = omega (arith, s .steps); words = rw (n, k) (demands-long _ _ _ (s .demandsFit)) }
 
 pub steps-few : (corridor demands : List ℕ) (steps : ℕ) → sizes corridor demands ≡ true → steps ≡ stepsOf demands → steps ≤ 1440
 steps-few corridor demands steps e k = let s = sizes-iff corridor demands .0 e in omega (arith, s .steps)
@@ -36,12 +61,11 @@ pub plan-length-as : (corridor demands plan : List ℕ) (links steps : ℕ) → 
     → links ≡ linksOf corridor → steps ≡ stepsOf demands → length plan ≡ planLength links steps
 plan-length-as corridor demands plan links steps e n k = e ∙ ap₂ planLength (sym n) (sym k)
 
--- the length of a list whose rows begin after no word, and of one whose rows begin after one
+-- a list has the words of its rows, which begin after no word, or after one
 pub plan-words : (corridor demands plan : List ℕ) (links steps : ℕ) → length plan ≡ planLength (linksOf corridor) (stepsOf demands)
-    → links ≡ linksOf corridor → steps ≡ stepsOf demands → length plan ≡ 0 + planLength links steps
-plan-words corridor demands plan links steps e n k =
-    plan-length-as corridor demands plan links steps e n k ∙ sym (zero-add (planLength links steps))
+    → links ≡ linksOf corridor → steps ≡ stepsOf demands → 0 + planLength links steps ≤ length plan
+plan-words corridor demands plan links steps e n k = omega (arith, plan-length-as corridor demands plan links steps e n k)
 
 pub demand-words : (corridor demands : List ℕ) (links steps : ℕ) → sizes corridor demands ≡ true → links ≡ linksOf corridor → steps ≡ stepsOf demands
-    → length demands ≡ demandsLength links steps
+    → demandsLength links steps ≤ length demands
 demand-words corridor demands links steps e n k = demands-fit corridor demands links steps e n k .words

@@ -17,12 +17,12 @@ pub record CorridorFits (corridor : List ℕ) (links : ℕ) : Type 0 where
 abbrev pub NodeFits : List ℕ → ℕ → Type 0
 NodeFits corridor i = 1 + (i * 9 + 9) ≤ length corridor
 
--- the demands' list has the words that N and its K tell
+-- the demands' list has at least the words of kind 2, which N and its K tell
 pub record DemandsFit (demands : List ℕ) (links steps : ℕ) : Type 0 where
   pub first : steps ≡ stepsOf demands
   pub few : links ≤ 64
   pub short : steps ≤ 1440
-  pub words : length demands ≡ demandsLength links steps
+  pub words : demandsLength links steps ≤ length demands
 
 -- a row has `width` words for each node
 abbrev pub RowFits : ℕ → List ℕ → ℕ → Type 0

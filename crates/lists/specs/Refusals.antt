@@ -1,6 +1,6 @@
 -- Refusals 1 to 6 of document 01: the first fault of a node by each number, by step, then node.
 use Prim.Native.Nat.{ℕ}
-use mathlib.Core.Bool.{Bool, _&&_}
+use mathlib.Core.Bool.{Bool, _&&_, _||_}
 use mathlib.Core.List.{List}
 use lib.ListN.{length}
 use lib.Dec.{eqb}
@@ -10,16 +10,20 @@ use Rattle.tables.specs.First.{firstNode, firstPlace}
 use Rattle.tables.specs.Least.{least}
 use Rattle.road.specs.Corridor.{Road, Plan, nodes}
 use Rattle.faults.specs.Lists.{within, linkFault, rampFault, startFault, demandFault, planFault}
-use Rattle.lists.specs.Words.{linksOf, stepsOf, roadOf, planOf, corridorLength, demandsLength}
+use Rattle.lists.specs.Words.{linksOf, stepsOf, roadOf, planOf, corridorLength, demandsLength, downstreamLength}
 
 -- ---- 1. N, K or any list's length wrong
+
+-- the length of demands: that of kind 2, or that of kind 5
+unfoldable pub demandsSized : ℕ → ℕ → ℕ → Bool
+demandsSized links steps count = eqb count (demandsLength links steps) || eqb count (downstreamLength links steps)
 
 unfoldable pub sizes : List ℕ → List ℕ → Bool
 sizes corridor demands =
     within 1 64 (linksOf corridor)
     && (within 1 1440 (stepsOf demands)
     && (eqb (length corridor) (corridorLength (linksOf corridor))
-    && eqb (length demands) (demandsLength (linksOf corridor) (stepsOf demands))))
+    && demandsSized (linksOf corridor) (stepsOf demands) (length demands)))
 
 -- ---- 3. identifier repeated
 
@@ -42,7 +46,7 @@ startRefusal road = firstNode (nodes road) 0 (λ i. startFault (road .node i))
 
 unfoldable pub demandRefusal : Road → Answer
 demandRefusal road =
-    firstPlace (road .steps) (nodes road) (λ k i. demandFault (road .links) i (road .arrivals k i) (road .split k i))
+    firstPlace (road .steps) (nodes road) (λ k i. demandFault (road .links) i (road .arrivals k i) (road .split k i) (road .downstream k))
 
 -- 2 to 5, each over the whole input in number order
 unfoldable pub ranges : Road → Answer

@@ -30,7 +30,7 @@ nodeAt corridor i =
       start = record { vehicles = corridorWord corridor i 7; queue = corridorWord corridor i 8 };
     }
 
--- ---- Demands: K, then by step and node: Q, b
+-- ---- Demands: K, then by step and node: Q, b; in kind 5 then by step the flow that may leave link N
 
 unfoldable pub stepsOf : List ℕ → ℕ
 stepsOf demands = getD demands 0 0
@@ -39,9 +39,21 @@ stepsOf demands = getD demands 0 0
 abbrev pub demandsWord : List ℕ → ℕ → ℕ → ℕ → ℕ → ℕ
 demandsWord demands links k i q = getD demands (1 + place 2 (suc links) k i q) 0
 
--- traffic past link N is always free: as much may pass beyond it as any link sends
+-- the words of kind 2
+abbrev pub demandsLength : ℕ → ℕ → ℕ
+demandsLength links steps = 1 + steps * (suc links * 2)
+
+-- and of kind 5, which has one more for each step
+abbrev pub downstreamLength : ℕ → ℕ → ℕ
+downstreamLength links steps = demandsLength links steps + steps
+
+-- traffic past link N is free: as much may leave it as any link sends
 abbrev pub free : ℕ
 free = 65536
+
+-- the flow that may leave link N in step k: a list of kind 2 ends before this word, and counts as 65,536 throughout
+abbrev pub downstreamWord : List ℕ → ℕ → ℕ → ℕ → ℕ
+downstreamWord demands links steps k = getD demands (demandsLength links steps + k) free
 
 -- the corridor and the demands together
 unfoldable pub roadOf : List ℕ → List ℕ → Road
@@ -52,7 +64,7 @@ roadOf corridor demands =
       node = nodeAt corridor;
       arrivals = λ k i. demandsWord demands (linksOf corridor) k i 0;
       split = λ k i. demandsWord demands (linksOf corridor) k i 1;
-      downstream = λ k. free;
+      downstream = downstreamWord demands (linksOf corridor) (stepsOf demands);
     }
 
 -- ---- Plan: by step and node: rate, limit
@@ -112,9 +124,6 @@ recordWords width road trace = traceWords width road trace ++ lowHigh (cost road
 
 abbrev pub corridorLength : ℕ → ℕ
 corridorLength links = 1 + suc links * 9
-
-abbrev pub demandsLength : ℕ → ℕ → ℕ
-demandsLength links steps = 1 + steps * (suc links * 2)
 
 abbrev pub planLength : ℕ → ℕ → ℕ
 planLength links steps = steps * (suc links * 2)

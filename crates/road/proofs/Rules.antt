@@ -212,6 +212,28 @@ merge-free sent offered split supply x p q h =
     ap₂ (λ (d e : ℕ). merge d e split supply) p q
     ∙ flows-eq (merge (x .main) (x .ramp) split supply) x (passed-free (x .main) _ supply h) (passed-free (x .ramp) _ supply h)
 
+-- with no offer and no split nothing is rounded away: the smaller of D and S passes
+pub merge-alone : (sent supply : ℕ) → merge sent 0 0 supply ≡ record { main = min sent supply; ramp = 0 }
+unfolding merge through exit
+merge-alone sent supply =
+    let whole : through sent 0 + 0 ≡ sent = omega arith in
+    ⊎-elim
+    (λ (h : through sent 0 + 0 ≤ supply).
+    flows-eq _ _ (passed-free sent _ supply h ∙ omega arith) (passed-free 0 _ supply h))
+    (λ (h : supply < through sent 0 + 0).
+    flows-eq _ _
+    (passed-tight sent _ supply h ∙ ap (λ (n : ℕ). sent * supply / n) whole ∙ share-whole sent supply (omega arith) ∙ omega arith)
+    (omega (arith, passed-le 0 (through sent 0 + 0) supply)))
+    (le-or-lt (through sent 0 + 0) supply)
+  where
+    share-whole : (whole part : ℕ) → 0 < whole → whole * part / whole ≡ part
+    share-whole whole part h =
+        omega (
+          arith,
+          share-le-part whole part whole (omega arith),
+          le-div-iff-mul-le {x = part} {y = whole * part} h .1 (omega (arith, mul-comm part whole)),
+        )
+
 -- ---- rules 1 to 5 at a junction, at any rate, and at any limit up to full speed
 
 module _ (junction : Junction) (rate limit : ℕ) where

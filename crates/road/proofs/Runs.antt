@@ -1,15 +1,15 @@
 -- Laws of a run: nodes 0 and N, where document 01's rules have a case of their own and the definitions have none, and what every state keeps.
-use Prim.Native.Nat.{ℕ, zero, suc, _≤_, _<_}
-use mathlib.Core.Path.{_≡_, refl, sym, ap, subst, _∙_}
+use Prim.Native.Nat.{ℕ, zero, suc, _≤_, _<_, min}
+use mathlib.Core.Path.{_≡_, refl, sym, ap, ap₂, subst, _∙_}
 use mathlib.Core.Logic.{⊎-elim}
 use native.Mathlib.Omega.{arith}
 use borrow.Author.Tests.{lt-ltb, le-ltb}
 use Rattle.tables.proofs.Numbers.{le-or-lt}
 use Rattle.road.specs.Corridor.{Link, NodeState, Road, Plan, Flows}
-use Rattle.road.specs.Step.{sending, offer, receiving, flowsWith, outflow, moved}
+use Rattle.road.specs.Step.{sending, offer, receiving, merge, flowsWith, outflow, moved}
 use Rattle.road.specs.Run.{FreeBeyond, supply, junction, inflow, next, planFlows, stateAt, noFlow, run}
 use Rattle.road.specs.Limits.{Limits, JunctionLimits}
-use Rattle.road.proofs.Rules.{sending-capacity, through-le, offer-le, receiving-le, merge-free, flows-fit}
+use Rattle.road.proofs.Rules.{sending-capacity, through-le, offer-le, receiving-le, merge-free, merge-alone, flows-fit}
 
 -- ---- supply
 
@@ -102,6 +102,18 @@ module _ (road : Road) (limits : Limits road) where
       let n = road .links in
       merge-free _ _ (road .split k n) (supply road k state n) _ refl refl
       (exit-fits k state _ free (exit-offers (state n .queue) rate) (sending-capacity (road .node n .link) (state n .vehicles) limit))
+
+  -- rule 5 at node N: nothing is rounded away, f = min(D, S) and r = 0
+  pub exit-passes : (k : ℕ) (state : ℕ → NodeState) (rate limit : ℕ) → k < road .steps
+      → flowsWith (junction road k state (road .links)) rate limit
+      ≡ record { main = min (sending (road .node (road .links) .link) (state (road .links) .vehicles) limit) (road .downstream k); ramp = 0 }
+  unfolding flowsWith junction
+  exit-passes k state rate limit h =
+      let n = road .links in
+      let sent = sending (road .node n .link) (state n .vehicles) limit in
+      ap₂ (λ (e s : ℕ). merge sent e (road .split k n) s) (exit-offers (state n .queue) rate) (supply-last road k state)
+      ∙ ap (λ (b : ℕ). merge sent 0 b (road .downstream k)) (limits .demand k n h (omega arith) .exitSplit refl)
+      ∙ merge-alone sent (road .downstream k)
 
   -- where what each node passes on fits, vehicles that are within 0..J stay so
   pub next-jam : (k : ℕ) (state : ℕ → NodeState) (flows : ℕ → Flows)

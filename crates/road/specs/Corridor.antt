@@ -40,7 +40,7 @@ pub record Road : Type 0 where
   pub arrivals : ℕ → ℕ → ℕ
   -- b
   pub split : ℕ → ℕ → ℕ
-  -- the flow that may pass beyond link N, by step
+  -- the flow that may leave link N, by step
   pub downstream : ℕ → ℕ
 
 -- nodes 0..N

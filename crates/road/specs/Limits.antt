@@ -42,13 +42,14 @@ pub record Identified (road : Road) (i : ℕ) : Type 0 where
   pub named : 1 ≤ road .node i .identifier
   pub distinct : (j : ℕ) → j < i → road .node j .identifier ≡ road .node i .identifier → ⊥
 
--- Q and b 0..65,536; Q of node N and b of nodes 0 and N are zero
+-- Q and b 0..65,536; Q of node N and b of nodes 0 and N are zero; the flow that may leave link N, looked at with node N, 0..65,536
 pub record DemandLimits (road : Road) (k i : ℕ) : Type 0 where
   pub arrivals : road .arrivals k i ≤ 65536
   pub split : road .split k i ≤ 65536
   pub entry : i ≡ 0 → road .split k i ≡ 0
   pub exitSplit : i ≡ road .links → road .split k i ≡ 0
   pub exitArrivals : i ≡ road .links → road .arrivals k i ≡ 0
+  pub downstream : i ≡ road .links → road .downstream k ≤ 65536
 
 -- a corridor and demands within limits
 pub record Limits (road : Road) : Type 0 where

@@ -7,7 +7,7 @@ use Rattle.tables.specs.Sum.{sum}
 use Rattle.road.specs.Corridor.{NodeState, Road, Plan, Flows, Trace, nodes}
 use Rattle.road.specs.Step.{Junction, receiving, flowsWith, outflow, moved}
 
--- S, what node i's merge may pass on in step k: the receiving of link i + 1, and at node N what may pass beyond link N
+-- S, what node i's merge may pass on in step k: the receiving of link i + 1, and at node N the flow that may leave link N
 unfoldable pub supply : Road → ℕ → (ℕ → NodeState) → ℕ → ℕ
 supply road k state i =
     cond (ltb i (road .links)) (receiving (road .node (suc i) .link) (state (suc i) .vehicles)) (road .downstream k)

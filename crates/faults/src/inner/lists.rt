@@ -1,7 +1,7 @@
 // The fault of one node by each of refusals 2 to 6: its number, or 0.
 ghost use mathlib.Core.Path.{_≡_};
 ghost use mathlib.Core.Bool.{_&&_};
-ghost use lib.Dec.{eqb};
+ghost use lib.Dec.{leb, eqb};
 ghost use Rattle.tables.specs.Answer.{unless};
 ghost use Rattle.road.specs.Corridor.{Node};
 ghost use Rattle.road.specs.Values.{linkOf, rampOf, stateOf};
@@ -115,14 +115,17 @@ pub fn start_fault(link: Link, ramp: Ramp, start: NodeState) -> u32
     0
 }
 
-// At node N both arrivals Q and split b are zero.
-fn exit_demand_fault(arrivals: u32, split: u32) -> u32
-    ensures { λ r. ⌜ r ≡ unless (eqb split 0 && eqb arrivals 0) 5 ⌝ }
+// At node N both arrivals Q and split b are zero, and the flow that may leave link N is in range.
+fn exit_demand_fault(arrivals: u32, split: u32, downstream: u32) -> u32
+    ensures { λ r. ⌜ r ≡ unless (eqb split 0 && (eqb arrivals 0 && leb downstream 65536)) 5 ⌝ }
 {
     if split != 0 {
         return 5;
     }
     if arrivals != 0 {
+        return 5;
+    }
+    if downstream > 65536 {
         return 5;
     }
     0
@@ -138,9 +141,9 @@ fn entry_demand_fault(split: u32) -> u32
     0
 }
 
-// Refusal 5 at node i.
-pub fn demand_fault(links: usize, i: usize, arrivals: u32, split: u32) -> u32
-    ensures { λ r. ⌜ r ≡ demandFault links i arrivals split ⌝ }
+// Refusal 5 at node i, in a step in which `downstream` may leave link N.
+pub fn demand_fault(links: usize, i: usize, arrivals: u32, split: u32, downstream: u32) -> u32
+    ensures { λ r. ⌜ r ≡ demandFault links i arrivals split downstream ⌝ }
 {
     if arrivals > 65536 {
         return 5;
@@ -149,7 +152,7 @@ pub fn demand_fault(links: usize, i: usize, arrivals: u32, split: u32) -> u32
         return 5;
     }
     if i == links {
-        return exit_demand_fault(arrivals, split);
+        return exit_demand_fault(arrivals, split, downstream);
     }
     if i == 0 {
         return entry_demand_fault(split);

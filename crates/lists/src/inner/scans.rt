@@ -7,13 +7,14 @@ ghost use Rattle.tables.specs.Answer.{refusal};
 ghost use Rattle.tables.specs.First.{firstNode, firstPlace};
 ghost use Rattle.lists.specs.Words.{linksOf, stepsOf, nodeAt, roadOf, planLength, Width};
 ghost use Rattle.faults.specs.Lists.{startFault, demandFault, planFault};
-ghost use Rattle.lists.specs.Refusals.{sizes, ranges, planBounds};
+ghost use Rattle.lists.specs.Refusals.{demandsSized, sizes, ranges, planBounds};
 ghost use Rattle.lists.specs.Scans.{lengthsFit, nodeFault, nodeFaultIn, nodeFaultAt, RowFor, corridorRefusal};
 ghost use Rattle.lists.specs.Fits.{CorridorFits, NodeFits, NodeIn};
 ghost use Rattle.lists.specs.declared.inner.scans.NodeTest.the-variants.{Ramp};
 use crate::inner::identifiers;
 use crate::inner::words;
 use faults::inner::lists;
+use road::Units;
 use tables::Answer;
 use tables::is_refused;
 use tables::refusal;
@@ -43,6 +44,18 @@ pub fn row_at(k: usize, width: usize, rows: usize) -> usize
     k * width
 }
 
+// Whether `count` words are demands of kind 2 or of kind 5.
+fn demands_sized(links: usize, steps: usize, count: usize) -> bool
+    requires { ⌜ (links ≤ 64) × (steps ≤ 1440) ⌝ }
+    ensures { λ r. ⌜ r ≡ demandsSized links steps count ⌝ }
+{
+    let short = 1 + table_length(steps, (links + 1) * 2);
+    if count == short {
+        return true;
+    }
+    count == short + steps
+}
+
 // Whether N and K are in range and the lists are as long as these tell.
 fn lengths_fit(links: usize, steps: usize, corridor: usize, demands: usize) -> bool
     ensures { λ r. ⌜ r ≡ lengthsFit links steps corridor demands ⌝ }
@@ -63,7 +76,7 @@ fn lengths_fit(links: usize, steps: usize, corridor: usize, demands: usize) -> b
     if corridor != 1 + nodes * 9 {
         return false;
     }
-    demands == 1 + table_length(steps, nodes * 2)
+    demands_sized(links, steps, demands)
 }
 
 // Whether N, K and the length of both lists are right.
@@ -89,7 +102,7 @@ pub fn state_words(links: usize, width: usize) -> usize
 // Refusal 3 at node i.
 fn ramp_number(corridor: &[u32], links: usize, i: usize) -> u32
     requires { ⌜ NodeFits (now corridor) i ⌝ }
-    ensures { λ r. ⌜ r ≡ nodeFault Ramp (now (corridor .entry)) links i 0 0 ⌝ }
+    ensures { λ r. ⌜ r ≡ nodeFault Ramp (now (corridor .entry)) links i 0 0 0 ⌝ }
 {
     let identifier = words::identifier_at(corridor, i);
     let ramp = words::ramp_at(corridor, i);
@@ -109,15 +122,16 @@ fn start_number(corridor: &[u32], i: usize) -> u32
 }
 
 // Refusal 5 at node i, in a row of the demands.
-fn demand_number(links: usize, row: &[u32], i: usize) -> u32
+fn demand_number(links: usize, row: &[u32], downstream: Units, i: usize) -> u32
     requires { ⌜ NodeIn 2 (now row) i ⌝ }
-    ensures { λ r. ⌜ r ≡ demandFault links i (getD (now (row .entry)) (i * 2 + 0) 0) (getD (now (row .entry)) (i * 2 + 1) 0) ⌝ }
+    ensures { λ r. ⌜ r ≡ demandFault links i (getD (now (row .entry)) (i * 2 + 0) 0) (getD (now (row .entry)) (i * 2 + 1) 0) (downstream .0) ⌝ }
 {
     lists::demand_fault(
         links,
         i,
         words::arrivals_at(row, i).0,
         words::split_at(row, i).0,
+        downstream.0,
     )
 }
 
@@ -137,16 +151,23 @@ fn plan_number(corridor: &[u32], row: &[u32], i: usize) -> u32
 }
 
 // What a test finds at node i.
-fn node_number(test: NodeTest, corridor: &[u32], links: usize, row: &[u32], i: usize) -> u32
+fn node_number(
+    test: NodeTest,
+    corridor: &[u32],
+    links: usize,
+    row: &[u32],
+    downstream: Units,
+    i: usize,
+) -> u32
     requires { ⌜ CorridorFits (now corridor) links ⌝ }
     requires { ⌜ RowFor test (now row) links × (i ≤ links) ⌝ }
-    ensures { λ r. ⌜ r ≡ nodeFaultIn test (now (corridor .entry)) links (now (row .entry)) i ⌝ }
+    ensures { λ r. ⌜ r ≡ nodeFaultIn test (now (corridor .entry)) links (now (row .entry)) (downstream .0) i ⌝ }
 {
     match test {
         NodeTest::Link => lists::link_fault(i, words::link_at(corridor, i)),
         NodeTest::Ramp => ramp_number(corridor, links, i),
         NodeTest::Start => start_number(corridor, i),
-        NodeTest::Demand => demand_number(links, row, i),
+        NodeTest::Demand => demand_number(links, row, downstream, i),
         NodeTest::Plan => plan_number(corridor, row, i),
     }
 }
@@ -158,26 +179,34 @@ fn node_answer(
     corridor: &[u32],
     links: usize,
     row: &[u32],
+    downstream: Units,
     i: usize,
 ) -> Answer
     requires { ⌜ CorridorFits (now corridor) links ⌝ }
     requires { ⌜ (k ≤ 1440) × RowFor test (now row) links × (i ≤ links) ⌝ }
-    ensures { λ r. ⌜ r ≡ refusal (nodeFaultIn test (now (corridor .entry)) links (now (row .entry)) i) k i ⌝ }
+    ensures { λ r. ⌜ r ≡ refusal (nodeFaultIn test (now (corridor .entry)) links (now (row .entry)) (downstream .0) i) k i ⌝ }
 {
-    let number = node_number(test, corridor, links, row, i);
+    let number = node_number(test, corridor, links, row, downstream, i);
     refusal(number, k as u32, i as u32)
 }
 
 // The first node that a test refuses, in row k of a list or, where the test reads no row, in the corridor.
-pub fn scan_nodes(test: NodeTest, k: usize, corridor: &[u32], links: usize, row: &[u32]) -> Answer
+pub fn scan_nodes(
+    test: NodeTest,
+    k: usize,
+    corridor: &[u32],
+    links: usize,
+    row: &[u32],
+    downstream: Units,
+) -> Answer
     requires { ⌜ CorridorFits (now corridor) links ⌝ }
     requires { ⌜ (k ≤ 1440) × RowFor test (now row) links ⌝ }
-    ensures { λ r. ⌜ r ≡ firstNode (suc links) k (nodeFaultIn test (now (corridor .entry)) links (now (row .entry))) ⌝ }
+    ensures { λ r. ⌜ r ≡ firstNode (suc links) k (nodeFaultIn test (now (corridor .entry)) links (now (row .entry)) (downstream .0)) ⌝ }
 {
     let nodes = links + 1;
     let mut i = 0;
     while i < nodes {
-        let answer = node_answer(test, k, corridor, links, row, i);
+        let answer = node_answer(test, k, corridor, links, row, downstream, i);
         if is_refused(answer) {
             return answer;
         }
@@ -191,18 +220,19 @@ pub fn scan_corridor(corridor: &[u32], links: usize) -> Answer
     requires { ⌜ CorridorFits (now corridor) links ⌝ }
     ensures { λ r. ⌜ r ≡ corridorRefusal (now (corridor .entry)) links ⌝ }
 {
-    let link = scan_nodes(NodeTest::Link, 0, corridor, links, corridor);
+    let none = Units(0);
+    let link = scan_nodes(NodeTest::Link, 0, corridor, links, corridor, none);
     if is_refused(link) {
         return link;
     }
-    let ramp = scan_nodes(NodeTest::Ramp, 0, corridor, links, corridor);
+    let ramp = scan_nodes(NodeTest::Ramp, 0, corridor, links, corridor, none);
     if is_refused(ramp) {
         return ramp;
     }
-    scan_nodes(NodeTest::Start, 0, corridor, links, corridor)
+    scan_nodes(NodeTest::Start, 0, corridor, links, corridor, none)
 }
 
-// The first node that a test refuses in row k of a list whose rows begin after `skip` words.
+// The first node that a test refuses in row k of a list whose rows begin after `skip` words, and in its word for that row after them.
 fn scan_row(
     test: NodeTest,
     k: usize,
@@ -213,13 +243,14 @@ fn scan_row(
     skip: usize,
 ) -> Answer
     requires { ⌜ CorridorFits (now corridor) links ⌝ }
-    requires { ⌜ (k < steps) × (steps ≤ 1440) × (skip ≤ 1) × (length (now list) ≡ skip + steps * (suc links * 2)) ⌝ }
-    ensures { λ r. ⌜ r ≡ firstNode (suc links) k (nodeFaultAt test (now (corridor .entry)) links skip (now (list .entry)) k) ⌝ }
+    requires { ⌜ (k < steps) × (steps ≤ 1440) × (skip ≤ 1) × (skip + steps * (suc links * 2) ≤ length (now list)) ⌝ }
+    ensures { λ r. ⌜ r ≡ firstNode (suc links) k (nodeFaultAt test (now (corridor .entry)) links steps skip (now (list .entry)) k) ⌝ }
 {
     let width = (links + 1) * 2;
     let at = skip + row_at(k, width, steps);
     let end = at + width;
-    scan_nodes(test, k, corridor, links, &list[at..end])
+    let downstream = words::downstream_past(list, skip + table_length(steps, width), k);
+    scan_nodes(test, k, corridor, links, &list[at..end], downstream)
 }
 
 // The first row and node that a test refuses, in a list whose rows begin after `skip` words.
@@ -232,8 +263,8 @@ fn scan_rows(
     skip: usize,
 ) -> Answer
     requires { ⌜ CorridorFits (now corridor) links ⌝ }
-    requires { ⌜ (steps ≤ 1440) × (skip ≤ 1) × (length (now list) ≡ skip + steps * (suc links * 2)) ⌝ }
-    ensures { λ r. ⌜ r ≡ firstPlace steps (suc links) (nodeFaultAt test (now (corridor .entry)) links skip (now (list .entry))) ⌝ }
+    requires { ⌜ (steps ≤ 1440) × (skip ≤ 1) × (skip + steps * (suc links * 2) ≤ length (now list)) ⌝ }
+    ensures { λ r. ⌜ r ≡ firstPlace steps (suc links) (nodeFaultAt test (now (corridor .entry)) links steps skip (now (list .entry))) ⌝ }
 {
     let mut k = 0;
     while k < steps {

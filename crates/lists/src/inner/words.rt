@@ -2,12 +2,13 @@
 ghost use mathlib.Core.Path.{_≡_};
 ghost use mathlib.Core.List.{List};
 ghost use Prim.Native.Nat.{ℕ, _+_, _*_, _≤_, _<_};
-ghost use lib.ListN.{getD};
+ghost use lib.ListN.{length, getD};
 ghost use Rattle.road.specs.Run.{supply, junction};
 ghost use Rattle.road.specs.Values.{linkOf, rampOf, stateOf, junctionOf, flowsOf};
-ghost use Rattle.lists.specs.Words.{linksOf, stepsOf, nodeAt, corridorWord, Width, free};
+ghost use Rattle.lists.specs.Words.{linksOf, stepsOf, nodeAt, corridorWord, Width, free, downstreamWord};
 ghost use Rattle.lists.specs.Rows.{stateIn, flowsIn, stepRoad};
-ghost use Rattle.lists.specs.Fits.{CorridorFits, NodeFits, RowFits, NodeIn, JamKept};
+ghost use Rattle.lists.specs.Fits.{CorridorFits, NodeFits, DemandsFit, RowFits, NodeIn, JamKept};
+use crate::inner::scans;
 use road::Flows;
 use road::Junction;
 use road::Link;
@@ -159,11 +160,25 @@ pub fn limit_at(row: &[u32], i: usize) -> Speed
     Speed(row_word(row, 2, i, 1))
 }
 
-// What may pass beyond link N in a step.
-pub fn downstream() -> Units
-    ensures { λ r. ⌜ r .0 ≡ free ⌝ }
+// The flow that may leave link N in the step of row k, of a list whose rows end before word `end`: the list's word for it, or 65,536 where
+// the list has none.
+pub fn downstream_past(list: &[u32], end: usize, k: usize) -> Units
+    requires { ⌜ end ≤ length (now list) ⌝ }
+    ensures { λ r. ⌜ r .0 ≡ getD (now (list .entry)) (end + k) free ⌝ }
 {
+    if k < list.len() - end {
+        return Units(list[end + k]);
+    }
     Units(65536)
+}
+
+// The flow that may leave link N in step k.
+pub fn downstream_at(demands: &[u32], links: usize, steps: usize, k: usize) -> Units
+    requires { ⌜ DemandsFit (now demands) links steps ⌝ }
+    ensures { λ r. ⌜ r .0 ≡ downstreamWord (now (demands .entry)) links steps k ⌝ }
+{
+    let rows = scans::table_length(steps, (links + 1) * 2);
+    downstream_past(demands, 1 + rows, k)
 }
 
 // What the merge of node i may pass on, in the state that a record's row gives: no arrival and no split has a part in it.

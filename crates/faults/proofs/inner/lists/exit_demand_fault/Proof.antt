@@ -4,4 +4,4 @@ use Rattle.faults.proofs.inner.lists.exit_demand_fault.Statement.{state
 use Rattle.faults.proofs.inner.lists.exit_demand_fault.Tie as tie
 
 pub exit-demand-fault-spec : {M : Type 1} → statement M
-exit-demand-fault-spec = tie.close (tie.spec (λ c. search tests) (λ c. search tests) (λ c. search tests))
+exit-demand-fault-spec = tie.close (tie.spec (λ c. search tests) (λ c. search tests) (λ c. search tests) (λ c. search tests))

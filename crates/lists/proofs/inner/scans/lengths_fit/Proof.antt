@@ -12,8 +12,7 @@ returns-5 c = search (tests, ← add-one (c .before .before .before .before .bef
 
 returns-6 : tie.Need-returns-6
 unfolding lengthsFit
-returns-6 c =
-    search (tests, ← add-one (c .before .before .before .before .before .before .args .links), ← c .table-length .ensures)
+returns-6 c = search (tests, ← add-one (c .before .before .before .before .before .before .args .links), ← c .demands-sized .ensures)
 
 pub lengths-fit-spec : {M : Type 1} → statement M
 unfolding lengthsFit
@@ -28,7 +27,5 @@ lengths-fit-spec =
     (λ c. search needs)
     (λ c. search needs)
     returns-5
-    (λ c. search needs)
     (λ c κs. search needs)
-    (λ c. search needs)
     returns-6)

@@ -10,10 +10,10 @@ use Rattle.lists.proofs.inner.scans.scan_nodes.Statement.{statement}
 use Rattle.lists.proofs.inner.scans.scan_nodes.Tie as tie
 
 abbrev Inv-loop : tie.InvT-loop
-Inv-loop test k corridor links row nodes i₀ i = Passed i nodes (λ j. refusal (nodeFaultIn test corridor links row j) k j)
+Inv-loop test k corridor links row downstream nodes i₀ i = Passed i nodes (λ j. refusal (nodeFaultIn test corridor links row (downstream .0) j) k j)
 
 abbrev μ-loop : tie.MeasureT-loop
-μ-loop test k corridor links row nodes i₀ i = nodes - i
+μ-loop test k corridor links row downstream nodes i₀ i = nodes - i
 
 pub scan-nodes-spec : {M : Type 1} → statement M
 scan-nodes-spec =

@@ -9,7 +9,7 @@ use Rattle.lists.proofs.inner.scans.scan_rows.Statement.{statement}
 use Rattle.lists.proofs.inner.scans.scan_rows.Tie as tie
 
 abbrev Inv-loop : tie.InvT-loop
-Inv-loop test corridor links steps list skip k₀ k = Passed k steps (λ j. firstNode (suc links) j (nodeFaultAt test corridor links skip list j))
+Inv-loop test corridor links steps list skip k₀ k = Passed k steps (λ j. firstNode (suc links) j (nodeFaultAt test corridor links steps skip list j))
 
 abbrev μ-loop : tie.MeasureT-loop
 μ-loop test corridor links steps list skip k₀ k = steps - k
