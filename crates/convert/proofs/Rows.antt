@@ -20,7 +20,7 @@ use Rattle.road.proofs.Rules.{flows-eq, state-eq, sending-le}
 use Rattle.road.proofs.Runs.{link-tops}
 use Rattle.road.proofs.Same.{junction-same, next-same}
 use Rattle.settings.specs.Setting.{settingFor}
-use Rattle.lists.specs.Words.{linksOf, stepsOf, free, nodeAt, roadOf, Width, traceOf}
+use Rattle.lists.specs.Words.{linksOf, stepsOf, downstreamWord, nodeAt, roadOf, Width, traceOf}
 use Rattle.lists.specs.Rows.{stateIn, flowsIn, stepRoad}
 use Rattle.lists.specs.Fits.{RowFits}
 use Rattle.simulate.proofs.Steps.{DemandRow, demand-row, step-junction, step-next}
@@ -91,11 +91,13 @@ module _ (width : ℕ) (corridor demands words : List ℕ) (links steps : ℕ) (
   n : links ≡ linksOf corridor
   n = ready .corridorFits .first
 
-  -- the demands' row carries what may pass beyond link N, as the lists have it
-  module _ (demand row : List ℕ) (d : DemandRow corridor demands k demand) (t : TraceRow width (linksOf corridor) (traceOf width (roadOf corridor demands) words) k row) (downstream : ℕ) (free-flow : downstream ≡ free) where
+  -- the demands' row comes with the flow that may leave link N, as the lists have it
+  module _ (demand row : List ℕ) (d : DemandRow corridor demands k demand) (t : TraceRow width (linksOf corridor) (traceOf width (roadOf corridor demands) words) k row) (downstream : ℕ) (beyond : downstream ≡ downstreamWord demands links steps k) where
     row-junction : (i : ℕ) → i ≤ linksOf corridor → junction (stepRoad corridor demand downstream) 0 (stateIn width row) i ≡ junction road k (trace .state k) i
     unfolding roadOf
-    row-junction i h = step-junction corridor demands k demand d downstream free-flow (stateIn width row) i h ∙ junction-same road k (stateIn width row) (trace .state k) i (t .state) h
+    row-junction i h =
+        step-junction corridor demands k demand d downstream (beyond ∙ ap₂ (λ (x y : ℕ). downstreamWord demands x y k) n (ready .demandsFit .first)) (stateIn width row) i h
+        ∙ junction-same road k (stateIn width row) (trace .state k) i (t .state) h
 
     row-fault : (after : List ℕ) → TraceRow width (linksOf corridor) trace (suc k) after → (i : ℕ) → i ≤ linksOf corridor → stepFaultIn width corridor demand downstream row after i ≡ stepAt road trace k i
     unfolding stepFaultIn roadOf
@@ -197,7 +199,7 @@ module _ (width : ℕ) (corridor demands words : List ℕ) (links steps : ℕ) (
   after-lent at w e q =
       subst (λ (j : ℕ). TraceRow width (linksOf corridor) trace j (take (at + w - at) (drop at words))) (add-one k) (trace-lent (k + 1) at w e q)
 
-  pub step-row-told : (r at next w downstream : ℕ) (a : Answer) → r ≡ k * ((links + 1) * 2) → at ≡ k * w → next ≡ (k + 1) * w → w ≡ suc links * width → downstream ≡ free
+  pub step-row-told : (r at next w downstream : ℕ) (a : Answer) → r ≡ k * ((links + 1) * 2) → at ≡ k * w → next ≡ (k + 1) * w → w ≡ suc links * width → downstream ≡ downstreamWord demands links steps k
       → a ≡ firstNode (suc links) k
       (stepFaultIn width corridor (take (1 + r + (links + 1) * 2 - (1 + r)) (drop (1 + r) demands)) downstream (take (at + w - at) (drop at words))
       (take (next + w - next) (drop next words)))
@@ -227,14 +229,14 @@ module _ (width : ℕ) (corridor demands words : List ℕ) (links steps : ℕ) (
 
     pub step-row-kept : fixedRefusal width corridor links steps words ≡ Accepted → stepsRefusal width corridor demands links words k ≡ Accepted
         → RowsKept width corridor demandRow traceRow links
-    step-row-kept fixed before = rows-kept (step-kept _ _ (demand-lent r e) (trace-lent k at w q v) free refl fixed before hk)
+    step-row-kept fixed before = rows-kept (step-kept _ _ (demand-lent r e) (trace-lent k at w q v) (downstreamWord demands links steps k) refl fixed before hk)
 
     module _ (accepted : judged width (roadOf corridor demands) words ≡ Accepted) where
       pub plan-row-kept : RowsKept width corridor demandRow traceRow links
-      plan-row-kept = rows-kept (plan-kept _ _ (demand-lent r e) (trace-lent k at w q v) free refl accepted hk)
+      plan-row-kept = rows-kept (plan-kept _ _ (demand-lent r e) (trace-lent k at w q v) (downstreamWord demands links steps k) refl accepted hk)
 
       pub plan-row-sent : SentKept width traceRow links
-      plan-row-sent = plan-sent _ _ (demand-lent r e) (trace-lent k at w q v) free refl accepted hk
+      plan-row-sent = plan-sent _ _ (demand-lent r e) (trace-lent k at w q v) (downstreamWord demands links steps k) refl accepted hk
 
   -- row k + 1 has room for nodes 0..N
   pub after-row-fits : (at w : ℕ) → at ≡ (k + 1) * w → w ≡ suc links * width → k < steps → RowFits width (take (at + w - at) (drop at words)) links

@@ -13,7 +13,7 @@ use Rattle.road.specs.Corridor.{Link}
 use Rattle.road.specs.Values.{linkOf}
 use Rattle.settings.specs.declared.Setting.{Setting}
 use Rattle.settings.specs.Setting.{rateIn, limitIn}
-use Rattle.lists.specs.Words.{linksOf, stepsOf, free, nodeAt, roadOf, recordWidth, traceOf, planWord, planWords, planLength}
+use Rattle.lists.specs.Words.{linksOf, stepsOf, downstreamWord, nodeAt, roadOf, recordWidth, traceOf, planWord, planWords, planLength}
 use Rattle.lists.specs.Fits.{RowFits}
 use Rattle.convert.specs.Convert.{settingAt, planFor, converted}
 use Rattle.convert.specs.Rows.{settingIn, settingWord, planRow, Ready}
@@ -53,7 +53,7 @@ module _ (corridor demands words : List ℕ) (links steps : ℕ) (ready : Ready 
 
   -- one more row is lent and comes back as ys; w is how many words a record's row has
   pub plan-more : (k r at w downstream : ℕ) (d plan ys : List ℕ) → PlanRows corridor demands words links steps k d plan → k < steps → r ≡ k * ((links + 1) * 2) → at ≡ k * w
-      → w ≡ suc links * recordWidth → downstream ≡ free
+      → w ≡ suc links * recordWidth → downstream ≡ downstreamWord demands links steps k
       → ys ≡ planRow recordWidth corridor links (take (1 + r + (links + 1) * 2 - (1 + r)) (drop (1 + r) demands)) downstream (take (at + w - at) (drop at words))
       → PlanRows corridor demands words links steps (k + 1) d (putMid r (r + (links + 1) * 2 - r) plan ys)
   unfolding planRow settingWord planWord planFor roadOf

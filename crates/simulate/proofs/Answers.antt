@@ -15,6 +15,7 @@ use Rattle.lists.specs.Words.{linksOf, stepsOf, roadOf, planOf, recordWidth, pl
 use Rattle.lists.specs.Refusals.{sizes, ranges, bounds, planBounds}
 use Rattle.faults.proofs.Tests.{both-hold, eq-holds}
 use Rattle.lists.proofs.Limits.{sizes-iff, sized-iff, ranges-iff, bounds-iff}
+use Rattle.lists.proofs.Sizes.{demands-long}
 use Rattle.simulate.specs.Simulate.{simulateSizes, simulateAnswer, Sound}
 
 -- N and K in range, as the code has them
@@ -98,7 +99,7 @@ module _ (corridor demands plan : List ℕ) (room : ℕ) where
       record {
         corridorFits = record { first = refl; few = omega (arith, s .links); words = s .corridorFits };
         steps = omega (arith, s .steps);
-        demandsFit = s .demandsFit;
+        demandsFit = demands-long _ _ _ (s .demandsFit);
         planFits = l .planFits;
         limits = ranges-iff (roadOf corridor demands) (s .links) (s .steps) .0 (r .0);
         bounded = bounds-iff (roadOf corridor demands) (planOf (roadOf corridor demands) plan) .0 (r .1);

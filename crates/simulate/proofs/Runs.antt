@@ -1,7 +1,7 @@
 -- Laws of the run's loops: what one step asks and gives, and the invariants of the loops over all steps.
 use Prim.Native.Nat.{ℕ, suc, _+_, _-_, _*_, _/_, _%_, _≤_, _<_}
 use mathlib.Core.List.{List, [], _∷_, _++_}
-use mathlib.Core.Path.{_≡_, refl, sym, ap, subst, _∙_}
+use mathlib.Core.Path.{_≡_, refl, sym, ap, ap₂, subst, _∙_}
 use native.Mathlib.Numerals.{add-one}
 use native.Mathlib.Omega.{arith}
 use borrow.Rule.Slice.PartMut.{putMid}
@@ -16,8 +16,8 @@ use Rattle.tables.proofs.Sum.{sum-none, sum-more}
 use Rattle.road.specs.Corridor.{Flows}
 use Rattle.road.specs.Run.{stateAt, run, cost}
 use Rattle.road.proofs.Runs.{run-flows, run-last}
-use Rattle.lists.specs.Words.{linksOf, stepsOf, free, roadOf, planOf, recordWidth, Width, nodeWord, traceWord, traceWords, lowHigh, recordWords, traceLength, recordLength}
-use Rattle.lists.specs.Fits.{CorridorFits, RowFits}
+use Rattle.lists.specs.Words.{linksOf, stepsOf, demandsLength, downstreamWord, roadOf, planOf, recordWidth, Width, nodeWord, traceWord, traceWords, lowHigh, recordWords, traceLength, recordLength}
+use Rattle.lists.specs.Fits.{CorridorFits, DemandsFit, RowFits}
 use Rattle.lists.proofs.Words.{trace-length}
 use Rattle.simulate.specs.Rows.{rowOf, startRow, flowRow, nextRow, rowCost, StepKept, RowsFit, Stepped}
 use Rattle.simulate.specs.Simulate.{Sound, stateRow, stepRow, ranCost, runCost, runWords, Ran, RanAll, simulated}
@@ -73,6 +73,15 @@ module _ (width : ℕ) (wide : Width width) (corridor demands plan : List ℕ) (
   pub rows-inside : Inside demands plan links at
   rows-inside = record { planRow = omega (arith, within, sound .planFits); demandRow = omega (arith, within, sound .demandsFit) }
 
+  pub demands-read : (steps : ℕ) → steps ≡ stepsOf demands → DemandsFit demands links steps
+  demands-read steps q =
+      record {
+        first = q;
+        few = omega (arith, sound .corridorFits .few);
+        short = omega (arith, sound .steps);
+        words = omega (arith, sound .demandsFit, ap₂ demandsLength n q);
+      }
+
   demand-row-fits : RowFits 2 demandRow links
   demand-row-fits =
       part-length (1 + at) ((links + 1) * 2) (length demands) demands (omega (arith, within, sound .demandsFit)) refl ∙ omega arith
@@ -102,17 +111,17 @@ module _ (width : ℕ) (wide : Width width) (corridor demands plan : List ℕ) (
         }
 
     -- row, after and total are what the step gave
-    pub step-ran : (downstream : ℕ) → downstream ≡ free → (row after : List ℕ) (total : ℕ)
+    pub step-ran : (steps downstream : ℕ) → steps ≡ stepsOf demands → downstream ≡ downstreamWord demands links steps k → (row after : List ℕ) (total : ℕ)
         → Stepped width corridor links demandRow downstream planRow state row after total → Ran width corridor demands plan k row after total
     unfolding roadOf
-    step-ran downstream d row after total g = record { written = written; moved = moved; adds = adds; low = g .low }
+    step-ran steps downstream q d row after total g = record { written = written; moved = moved; adds = adds; low = g .low }
       where
         written : row ≡ stepRow width corridor demands plan k
         written =
             g .written
             ∙ ap (λ (x : ℕ). flowRow width corridor x demandRow downstream planRow state) n
             ∙ ap (λ (x : List ℕ). flowRow width corridor (linksOf corridor) demandRow downstream planRow x) s
-            ∙ flow-row-is width wide corridor demands plan k demandRow planRow step-lent downstream d
+            ∙ flow-row-is width wide corridor demands plan k demandRow planRow step-lent downstream (d ∙ ap₂ (λ (x y : ℕ). downstreamWord demands x y k) n q)
 
         moved : after ≡ stateRow width corridor demands plan (suc k)
         moved =

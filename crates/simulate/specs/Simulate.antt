@@ -41,7 +41,7 @@ recordLeft corridor demands plan lent = left (simulateAnswer corridor demands pl
 pub record Sound (corridor demands plan : List ℕ) : Type 0 where
   pub corridorFits : CorridorFits corridor (linksOf corridor)
   pub steps : stepsOf demands ≤ 1440
-  pub demandsFit : length demands ≡ demandsLength (linksOf corridor) (stepsOf demands)
+  pub demandsFit : demandsLength (linksOf corridor) (stepsOf demands) ≤ length demands
   pub planFits : length plan ≡ planLength (linksOf corridor) (stepsOf demands)
   pub limits : Limits (roadOf corridor demands)
   pub bounded : Bounded (roadOf corridor demands) (planOf (roadOf corridor demands) plan)

@@ -105,7 +105,7 @@ fn write_rows(
             corridor,
             links,
             &demands[first..past],
-            words::downstream(),
+            words::downstream_at(demands, links, steps, k),
             &words[from..to],
             width,
             &mut plan[at..end],

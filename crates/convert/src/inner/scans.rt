@@ -125,7 +125,7 @@ fn step_at(
         corridor,
         links,
         &demands[at..end],
-        words::downstream(),
+        words::downstream_at(demands, links, steps, k),
         &words[from..to],
         &words[next..last],
         width,

@@ -26,16 +26,18 @@ fn step_at(
     ensures { λ r. ⌜ Ran width (now (corridor .entry)) (now (demands .entry)) (now (plan .entry)) k (now (row .exit)) (now (state .exit)) r ⌝ }
 {
     let links = words::links_of(corridor);
+    let steps = words::steps_of(demands);
     let narrow = (links + 1) * 2;
-    let at = scans::row_at(k, narrow, words::steps_of(demands));
+    let at = scans::row_at(k, narrow, steps);
     let end = at + narrow;
     let from = 1 + at;
     let to = from + narrow;
+    let downstream = words::downstream_at(demands, links, steps, k);
     rows::step(
         corridor,
         links,
         &demands[from..to],
-        words::downstream(),
+        downstream,
         &plan[at..end],
         state,
         row,

@@ -15,7 +15,7 @@ Inv-loop corridor demands links steps words plan₀ width narrow wide k₀ plan 
 abbrev μ-loop : tie.MeasureT-loop
 μ-loop corridor demands links steps words plan₀ width narrow wide k₀ plan k = steps - k
 
-from-inside : (c : tie.After-downstream Inv-loop μ-loop) → c .before .before .row-at2 .result + c .before .before .before .before .before .before .state-words .result ≤ length (c .before .before .before .before .before .before .before .before .before .before .before .args .words .now)
+from-inside : (c : tie.After-downstream-at Inv-loop μ-loop) → c .before .before .row-at2 .result + c .before .before .before .before .before .before .state-words .result ≤ length (c .before .before .before .before .before .before .before .before .before .before .before .args .words .now)
 from-inside c =
     let k = c .before .before .before .before .before .before .before .before .before .before .before in
     row-inside _ _ _ _ _ (k .args .words .now) (c .before .before .row-at2 .ensures .1) (c .before .before .before .before .before .before .state-words .ensures .0) (k .pre .0 .recordFits)
@@ -43,7 +43,7 @@ loop-again c =
     let w = c .before .before .before .before .before .before .before .before .before .before .before in
     let k = w .before .before .before .before .before in
     plan-more _ _ _ _ _ (k .pre .0) _ _ _ _ _ _ _ _ (l .loop .inv) (omega arith) (from .before .row-at .ensures .0) (from .row-at2 .ensures .0) (w .state-words .ensures .0)
-    (c .before .before .before .before .before .downstream .ensures) (c .before .before .plan-row .ensures)
+    (c .before .before .before .before .before .downstream-at .ensures) (c .before .before .plan-row .ensures)
 
 pub write-rows-spec : {M : Type 1} → statement M
 write-rows-spec =

@@ -27,14 +27,14 @@ returns c =
     let w = from .before .before in
     let k = w .before .before .before .before in
     step-row-told _ _ _ _ _ _ (k .pre .0) _ _ _ _ _ _ _ (from .before .row-at .ensures .0) (from .row-at2 .ensures .0) (next .row-at3 .ensures .0) (w .state-words .ensures .0)
-    (c .before .before .before .downstream .ensures) (c .step-row .ensures)
+    (c .before .before .before .downstream-at .ensures) (c .step-row .ensures)
 
-from-inside : (c : tie.After-downstream) → c .before .before .before .row-at2 .result + c .before .before .before .before .before .state-words .result ≤ length (c .before .before .before .before .before .before .before .before .before .args .words .now)
+from-inside : (c : tie.After-downstream-at) → c .before .before .before .row-at2 .result + c .before .before .before .before .before .state-words .result ≤ length (c .before .before .before .before .before .before .before .before .before .args .words .now)
 from-inside c =
     let k = c .before .before .before .before .before .before .before .before .before in
     row-inside _ _ _ _ _ (k .args .words .now) (c .before .before .before .row-at2 .ensures .1) (c .before .before .before .before .before .state-words .ensures .0) (k .pre .0 .recordFits)
 
-next-inside : (c : tie.After-downstream) → c .before .before .row-at3 .result + c .before .before .before .before .before .state-words .result ≤ length (c .before .before .before .before .before .before .before .before .before .args .words .now)
+next-inside : (c : tie.After-downstream-at) → c .before .before .row-at3 .result + c .before .before .before .before .before .state-words .result ≤ length (c .before .before .before .before .before .before .before .before .before .args .words .now)
 next-inside c =
     let k = c .before .before .before .before .before .before .before .before .before in
     row-inside _ _ _ _ _ (k .args .words .now) (c .before .before .row-at3 .ensures .1) (c .before .before .before .before .before .state-words .ensures .0) (k .pre .0 .recordFits)

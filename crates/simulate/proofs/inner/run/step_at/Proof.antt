@@ -1,7 +1,7 @@
 -- Row k of the demands and row k of the plan lie within their lists, and a step on them is step k of the run.
 use native.Mathlib.Omega.{arith}
 use Rattle.tables.proofs.Sets.{all}
-use Rattle.simulate.proofs.Runs.{Inside, rows-inside, rows-fit, row-lent, step-ran}
+use Rattle.simulate.proofs.Runs.{Inside, rows-inside, rows-fit, row-lent, demands-read, step-ran}
 use Rattle.simulate.proofs.inner.run.step_at.Statement.{statement}
 use Rattle.simulate.proofs.inner.run.step_at.Tie as tie
 
@@ -12,6 +12,12 @@ inside c =
     let n = c .before .before in
     let k = n .before .before .before .before .before .before in
     rows-inside _ (k .pre .0 .1) _ _ _ _ _ _ (k .pre .0 .0) (n .links-of .ensures) (k .pre .1 .0) (c .row-at .ensures .0)
+
+downstream-at-requires : tie.Need-downstream-at-requires
+downstream-at-requires c κs =
+    let n = c .before .before in
+    let k = n .before .before .before .before .before .before in
+    demands-read _ (k .pre .0 .1) _ _ _ _ _ _ (k .pre .0 .0) (n .links-of .ensures) (k .pre .1 .0) (c .row-at .ensures .0) _ (c .before .steps-of .ensures)
 
 step-requires : tie.Need-step-requires
 step-requires c κs =
@@ -25,30 +31,31 @@ step-requires c κs =
 returns : tie.Need-returns
 returns c =
     let s = c .before .before .before .before in
-    let d = s .before .before .before .before in
-    let r = d .before .before in
+    let d = s .before .before .before .before .before in
+    let r = d .before in
     let n = r .before .before in
     let k = n .before .before .before .before .before .before in
-    step-ran _ (k .pre .0 .1) _ _ _ _ _ _ (k .pre .0 .0) (n .links-of .ensures) (k .pre .1 .0) (r .row-at .ensures .0) _ (k .pre .1 .1 .0) _ (d .downstream .ensures) _ _ _ (s .step .ensures)
+    step-ran _ (k .pre .0 .1) _ _ _ _ _ _ (k .pre .0 .0) (n .links-of .ensures) (k .pre .1 .0) (r .row-at .ensures .0) _ (k .pre .1 .1 .0) _ _
+    (r .before .steps-of .ensures) (d .downstream-at .ensures) _ _ _ (s .step .ensures)
 
 pub step-at-spec : {M : Type 1} → statement M
 step-at-spec =
     tie.close
     (tie.spec
     (λ c κs. search all)
+    (λ c κs. search all)
     (λ c. search all)
     (λ c. search all)
     (λ c κs. search all)
-    (λ c κs. search all)
-    (λ c. omega (arith, inside c))
-    (λ c. search all)
-    (λ c. omega (arith, inside c))
-    (λ c. omega (arith, inside c))
     (λ c. search all)
     (λ c. search all)
-    (λ c. omega (arith, inside c))
-    (λ c κs. search all)
-    (λ c. omega (arith, inside (c .before .before)))
+    (λ c. search all)
+    downstream-at-requires
+    (λ c. search all)
+    (λ c. search all)
+    (λ c. search all)
+    (λ c. omega (arith, inside (c .before)))
+    (λ c. search all)
     (λ c. search all)
     (λ c. search all)
     (λ c. omega (arith, inside (c .before .before)))
