@@ -8,3 +8,4 @@ pub mod Steps
 pub mod Settings
 pub mod Answers
 pub mod Normal
+pub mod Roads

@@ -6,3 +6,4 @@ pub mod Sizes
 pub mod Limits
 pub mod Words
 pub mod Fits
+pub mod Roads

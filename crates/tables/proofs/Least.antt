@@ -1,7 +1,7 @@
 -- Laws of the least number that passes a test, and the invariant of a loop that halves to find it.
 use mathlib.Core.Bool.{Bool, true, false, cond}
 use mathlib.Core.Logic.{_⊎_, inl, inr, ⊎-elim}
-use mathlib.Core.Path.{_≡_, refl, sym, subst}
+use mathlib.Core.Path.{_≡_, refl, sym, subst, _∙_}
 use Prim.Native.Nat.{ℕ, zero, suc, _+_, _≤_, _<_}
 use native.Mathlib.Nat.{not-suc-le-zero}
 use native.Mathlib.Omega.{arith}
@@ -51,6 +51,13 @@ least-is p m x b none some =
     (le-or-lt (least p m) x))
     (λ (h : least p m < x). absurd (not-both (p (least p m)) (least-passes p m (omega arith)) (none (least p m) h)))
     (le-or-lt x (least p m))
+
+-- tests that agree below m have one least number
+pub least-same : (p q : ℕ → Bool) (m : ℕ) → ((y : ℕ) → y < m → p y ≡ q y) → least p m ≡ least q m
+least-same p q m e =
+    least-is q m (least p m) (least-bound p m)
+    (λ y h. sym (e y (omega (arith, least-bound p m))) ∙ least-below p m y h)
+    (λ h. sym (e (least p m) h) ∙ least-passes p m h)
 
 -- where the least below c, or c, does not pass, none of 0..c does
 pub least-fails : (p : ℕ → Bool) (c : ℕ) → p (least p c) ≡ false → (x : ℕ) → x ≤ c → p x ≡ false
