@@ -17,7 +17,7 @@ use Rattle.tables.proofs.Tests.{and-iff}
 use Rattle.faults.specs.Lists.{within}
 use Rattle.lists.proofs.Limits.{sized-iff}
 use Rattle.block.specs.declared.Kind.{Kind}
-use Rattle.block.specs.declared.Kind.the-variants.{Corridor, Demands, Record, Plan}
+use Rattle.block.specs.declared.Kind.the-variants.{Corridor, Demands, DemandsDownstream, Record, Plan}
 use Rattle.payload.specs.Word.{Words}
 use Rattle.payload.specs.File.{blocksFor, payloadWord, payloadPart, payloadOf, putPayload, fileOf}
 use Rattle.payload.specs.Reading.{payloadAnswer}
@@ -69,6 +69,7 @@ pub length-low : (kind : Kind) (n k : ℕ) → Told n k → 1 ≤ listLength kin
 unfolding listLength
 length-low Corridor n k t = omega arith
 length-low Demands n k t = omega arith
+length-low DemandsDownstream n k t = omega arith
 length-low Record n k t = omega arith
 length-low Plan n k t = words-low k (suc n) 2 (t .stepsLow) (omega arith) (omega arith)
 
@@ -76,6 +77,7 @@ pub length-high : (kind : Kind) (n k : ℕ) → Told n k → listLength kind n k
 unfolding listLength
 length-high Corridor n k t = omega arith
 length-high Demands n k t = omega (arith, words-high k (suc n) 2 2 (omega arith) (omega arith) (omega arith))
+length-high DemandsDownstream n k t = omega (arith, words-high k (suc n) 2 2 (omega arith) (omega arith) (omega arith))
 length-high Record n k t = omega (arith, words-high (suc k) (suc n) 4 4 (omega arith) (omega arith) (omega arith))
 length-high Plan n k t = omega (arith, words-high k (suc n) 2 2 (omega arith) (omega arith) (omega arith))
 
@@ -248,3 +250,8 @@ module _ (kind : Kind) (n k : ℕ) (words lent : List ℕ) (a : Answer) (e : a �
           let r : length lent ≡ blocksFor (length words) * 512 = write-room in
           let y : payloadOf (length words) x ≡ words = ap (payloadOf (length words)) u ∙ payload-put-all lent words w (omega arith) in
           left-accepted a _ _ lent l e h (s ∙ rw (v, y))
+
+-- a bad N or K leaves the file as lent, whatever the kind: b and s as above
+pub write-told-left : (kind : Kind) (n k : ℕ) (words lent : List ℕ) (b : Bool) → b ≡ toldFits n k → (s : Answer) → s ≡ sized b → Refuses s
+    → lent ≡ fileWritten kind n k words lent
+write-told-left kind n k words lent b q s x h = write-left kind n k words lent s (write-told-wrong kind n k words (length lent) b q s x h) h

@@ -11,7 +11,7 @@ use Rattle.tables.specs.declared.Answer.the-variants.{Accepted, Refused}
 use Rattle.tables.specs.Answer.{left}
 use Rattle.tables.proofs.Tabulate.{tabulate-length, tabulate-at}
 use Rattle.block.specs.declared.Kind.{Kind}
-use Rattle.block.specs.declared.Kind.the-variants.{Corridor, Demands, Record, Plan}
+use Rattle.block.specs.declared.Kind.the-variants.{Corridor, Demands, DemandsDownstream, Record, Plan}
 use Rattle.payload.specs.Word.{Bytes, Words}
 use Rattle.payload.specs.File.{blocksFor, fileOf, payloadWord, payloadOf, OneChange}
 use Rattle.payload.specs.Reading.{payloadAnswer}
@@ -20,10 +20,11 @@ use Rattle.block.specs.Calls.{toldFits, fileAnswer, readAnswer, wordsRea
 use Rattle.block.proofs.Calls.{told-is, length-low, length-high, file-kept, file-bytes, read-kept, write-kept}
 use Rattle.payload.proofs.Files.{read-write, write-read, file-change-seen}
 
-number-fits : (kind : Kind) → kindNumber kind < 4294967296
+pub number-fits : (kind : Kind) → kindNumber kind < 4294967296
 unfolding kindNumber
 number-fits Corridor = lit< tt
 number-fits Demands = lit< tt
+number-fits DemandsDownstream = lit< tt
 number-fits Record = lit< tt
 number-fits Plan = lit< tt
 
@@ -33,7 +34,7 @@ opens m file words l e = ap (λ (x : List ℕ). getD x 0 0) (sym e) ∙ tabulate
 
 -- words written and then read come back the same
 module _ (kind : Kind) (n k : ℕ) (words file lent : List ℕ) (fits : Words words) (written : writeAnswer kind n k words (length file) ≡ Accepted) (room : length lent ≡ length words) where
-  wrote : fileWritten kind n k words file ≡ fileOf (kindNumber kind) words
+  pub wrote : fileWritten kind n k words file ≡ fileOf (kindNumber kind) words
   unfolding fileWritten
   wrote = ap (λ (a : Answer). left a (fileOf (kindNumber kind) words) file) written
 
@@ -64,7 +65,7 @@ module _ (kind : Kind) (n k : ℕ) (words file lent : List ℕ) (fits : Words wo
 
 -- an accepted file read and rewritten has the same bytes
 module _ (kind : Kind) (n k : ℕ) (file words lent : List ℕ) (fits : Bytes file) (read : readAnswer kind n k file (length words) ≡ Accepted) (room : length lent ≡ length file) where
-  got : wordsRead kind n k file words ≡ payloadOf (listLength kind n k) file
+  pub got : wordsRead kind n k file words ≡ payloadOf (listLength kind n k) file
   unfolding wordsRead
   got = ap (λ (a : Answer). left a (payloadOf (listLength kind n k) file) words) read
 

@@ -1,3 +1,4 @@
 pub mod Calls
 pub mod EachKind
+pub mod Chosen
 pub mod Bounds

@@ -1,9 +1,10 @@
-// Block files: for each kind of word list a reader and a writer, told N and K.
+// Block files: a reader and a writer of corridors, of demands, of records and of plans, told N and K.
 pub mod inner;
 
 ghost use mathlib.Core.Path.{_≡_};
 ghost use lib.ListN.{length};
 ghost use Rattle.block.specs.declared.Kind.the-variants.{Corridor, Demands, Record, Plan};
+ghost use Rattle.block.specs.Kinds.{fileKind, listKind};
 ghost use Rattle.block.specs.Calls.{readAnswer, wordsRead, writeAnswer, fileWritten};
 use inner::calls;
 use tables::Answer;
@@ -12,6 +13,8 @@ use tables::Answer;
 pub enum Kind {
     Corridor,
     Demands,
+    // Demands with the flow that may leave link N, by step.
+    DemandsDownstream,
     Record,
     Plan,
 }
@@ -32,20 +35,20 @@ pub fn write_corridor(n: u32, k: u32, words: &[u32], file: &mut [u8]) -> Answer
     calls::write_list(Kind::Corridor, n, k, words, file)
 }
 
-// Demands out of a file.
+// Demands out of a file: word 0 of its first block chooses their kind, and a list lent for the other kind has a wrong length.
 pub fn read_demands(n: u32, k: u32, file: &[u8], words: &mut [u32]) -> Answer
-    ensures answered { λ r. ⌜ r ≡ readAnswer Demands n k (now (file .entry)) (length (now (words .entry))) ⌝ }
-    ensures lent { λ _. ⌜ now (words .exit) ≡ wordsRead Demands n k (now (file .entry)) (now (words .entry)) ⌝ }
+    ensures answered { λ r. ⌜ r ≡ readAnswer (fileKind Demands (now (file .entry))) n k (now (file .entry)) (length (now (words .entry))) ⌝ }
+    ensures lent { λ _. ⌜ now (words .exit) ≡ wordsRead (fileKind Demands (now (file .entry))) n k (now (file .entry)) (now (words .entry)) ⌝ }
 {
-    calls::read_list(Kind::Demands, n, k, file, words)
+    calls::read_chosen(Kind::Demands, n, k, file, words)
 }
 
-// Demands into a file.
+// Demands into a file: their length chooses the kind.
 pub fn write_demands(n: u32, k: u32, words: &[u32], file: &mut [u8]) -> Answer
-    ensures answered { λ r. ⌜ r ≡ writeAnswer Demands n k (now (words .entry)) (length (now (file .entry))) ⌝ }
-    ensures lent { λ _. ⌜ now (file .exit) ≡ fileWritten Demands n k (now (words .entry)) (now (file .entry)) ⌝ }
+    ensures answered { λ r. ⌜ r ≡ writeAnswer (listKind Demands n k (length (now (words .entry)))) n k (now (words .entry)) (length (now (file .entry))) ⌝ }
+    ensures lent { λ _. ⌜ now (file .exit) ≡ fileWritten (listKind Demands n k (length (now (words .entry)))) n k (now (words .entry)) (now (file .entry)) ⌝ }
 {
-    calls::write_list(Kind::Demands, n, k, words, file)
+    calls::write_chosen(Kind::Demands, n, k, words, file)
 }
 
 // A record out of a file.

@@ -5,7 +5,7 @@ ghost use Prim.Native.Nat.{_≤_};
 ghost use lib.Dec.{eqb};
 ghost use lib.ListN.{length, getD};
 ghost use Rattle.faults.specs.Lists.{within};
-ghost use Rattle.block.specs.Kinds.{Told, ownAgrees};
+ghost use Rattle.block.specs.Kinds.{Told, ownAgrees, fileKind, listKind};
 ghost use Rattle.block.specs.Calls.{toldFits, fileAnswer, readAnswer, wordsRead, writeAnswer, fileWritten};
 use crate::Kind;
 use crate::inner::kinds;
@@ -116,4 +116,25 @@ pub fn write_list(kind: Kind, n: u32, k: u32, words: &[u32], file: &mut [u8]) ->
     place::put(file, 0, words);
     sealing::seal(kinds::number_of(kind), words.len(), file);
     answer
+}
+
+// A file's words, the file choosing its kind, where `kind` is the oldest of its place.
+pub fn read_chosen(kind: Kind, n: u32, k: u32, file: &[u8], words: &mut [u32]) -> Answer
+    ensures answered { λ r. ⌜ r ≡ readAnswer (fileKind kind (now (file .entry))) n k (now (file .entry)) (length (now (words .entry))) ⌝ }
+    ensures lent { λ _. ⌜ now (words .exit) ≡ wordsRead (fileKind kind (now (file .entry))) n k (now (file .entry)) (now (words .entry)) ⌝ }
+{
+    read_list(kinds::file_kind(kind, file), n, k, file, words)
+}
+
+// A list's file, the list's length choosing its kind, where `kind` is the oldest of its place. N and K are tested first, since a length from
+// bad ones need not fit 64 bits.
+pub fn write_chosen(kind: Kind, n: u32, k: u32, words: &[u32], file: &mut [u8]) -> Answer
+    ensures answered { λ r. ⌜ r ≡ writeAnswer (listKind kind n k (length (now (words .entry)))) n k (now (words .entry)) (length (now (file .entry))) ⌝ }
+    ensures lent { λ _. ⌜ now (file .exit) ≡ fileWritten (listKind kind n k (length (now (words .entry)))) n k (now (words .entry)) (now (file .entry)) ⌝ }
+{
+    let told = sized(told_fits(n, k));
+    if is_refused(told) {
+        return told;
+    }
+    write_list(kinds::list_kind(kind, n, k, words.len()), n, k, words, file)
 }

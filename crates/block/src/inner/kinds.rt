@@ -1,9 +1,12 @@
-// A kind's number, its list's length, and its own N or K.
+// A kind's number, its list's length, and its own N or K; and the kind of a file or a list where a place takes more than one.
 ghost use mathlib.Core.Path.{_≡_};
+ghost use mathlib.Core.Bool.{cond};
 ghost use Prim.Native.Nat.{_*_, _≤_};
-ghost use Rattle.block.specs.Kinds.{Told, kindNumber, listLength, ownAgrees};
+ghost use Rattle.block.specs.declared.Kind.the-variants.{Demands, DemandsDownstream};
+ghost use Rattle.block.specs.Kinds.{Told, kindNumber, listLength, ownAgrees, kindWord, fileKind, listKind};
 use crate::Kind;
 use lists::inner::words;
+use payload::inner::words::word_at;
 
 // Word 0 of each block.
 pub fn number_of(kind: Kind) -> u32
@@ -12,6 +15,7 @@ pub fn number_of(kind: Kind) -> u32
     match kind {
         Kind::Corridor => 1,
         Kind::Demands => 2,
+        Kind::DemandsDownstream => 5,
         Kind::Record => 3,
         Kind::Plan => 4,
     }
@@ -20,7 +24,7 @@ pub fn number_of(kind: Kind) -> u32
 // The words of rows of nodes of c words.
 fn row_words(rows: usize, nodes: usize, c: usize) -> usize
     requires { ⌜ (1 ≤ rows) × (rows ≤ 1441) × (1 ≤ nodes) × (nodes ≤ 65) × (1 ≤ c) × (c ≤ 4) ⌝ }
-    ensures { λ r. ⌜ (r ≡ rows * (nodes * c)) × (1 ≤ r) × (r ≤ 374660) ⌝ }
+    ensures { λ r. ⌜ (r ≡ rows * (nodes * c)) × (1 ≤ r) × (r ≤ 1441 * (65 * c)) ⌝ }
 {
     rows * (nodes * c)
 }
@@ -35,6 +39,7 @@ pub fn length_of(kind: Kind, n: u32, k: u32) -> usize
     match kind {
         Kind::Corridor => 1 + nodes * 9,
         Kind::Demands => 1 + row_words(steps, nodes, 2),
+        Kind::DemandsDownstream => 1 + row_words(steps, nodes, 2) + steps,
         Kind::Record => row_words(steps + 1, nodes, words::RECORD_WIDTH) + 2,
         Kind::Plan => row_words(steps, nodes, 2),
     }
@@ -47,7 +52,55 @@ pub fn own_agrees(kind: Kind, n: u32, k: u32, word: u32) -> bool
     match kind {
         Kind::Corridor => word == n,
         Kind::Demands => word == k,
+        Kind::DemandsDownstream => word == k,
         Kind::Record => true,
         Kind::Plan => true,
+    }
+}
+
+// Word 0 of a file's first block, 0 where the file ends before it does.
+fn kind_word(file: &[u8]) -> u32
+    ensures { λ r. ⌜ r ≡ kindWord (now (file .entry)) ⌝ }
+{
+    if file.len() >= 4 {
+        return word_at(file, 0);
+    }
+    0
+}
+
+// The kind of demands, by whether they have the flow that may leave link N.
+fn demands_kind(downstream: bool) -> Kind
+    ensures { λ r. ⌜ r ≡ cond downstream DemandsDownstream Demands ⌝ }
+{
+    if downstream {
+        return Kind::DemandsDownstream;
+    }
+    Kind::Demands
+}
+
+// The kind that a file is read as, where `kind` is the oldest of its place.
+pub fn file_kind(kind: Kind, file: &[u8]) -> Kind
+    ensures { λ r. ⌜ r ≡ fileKind kind (now (file .entry)) ⌝ }
+{
+    match kind {
+        Kind::Corridor => Kind::Corridor,
+        Kind::Demands => demands_kind(kind_word(file) == number_of(Kind::DemandsDownstream)),
+        Kind::DemandsDownstream => Kind::DemandsDownstream,
+        Kind::Record => Kind::Record,
+        Kind::Plan => Kind::Plan,
+    }
+}
+
+// The kind of a list of `count` words, where `kind` is the oldest of its place.
+pub fn list_kind(kind: Kind, n: u32, k: u32, count: usize) -> Kind
+    requires { ⌜ Told n k ⌝ }
+    ensures { λ r. ⌜ r ≡ listKind kind n k count ⌝ }
+{
+    match kind {
+        Kind::Corridor => Kind::Corridor,
+        Kind::Demands => demands_kind(count == length_of(Kind::DemandsDownstream, n, k)),
+        Kind::DemandsDownstream => Kind::DemandsDownstream,
+        Kind::Record => Kind::Record,
+        Kind::Plan => Kind::Plan,
     }
 }

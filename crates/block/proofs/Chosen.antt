@@ -1,0 +1,162 @@
+-- What holds of the calls where the file or the list chooses its kind: p is the oldest kind of its place. A reader and a writer choose alike,
+-- so that the laws for a given kind carry over.
+use mathlib.Core.Bool.{Bool, true, false, cond}
+use mathlib.Core.List.{List}
+use mathlib.Core.Logic.{_≢_, _⊎_, inl, inr}
+use mathlib.Core.Path.{_≡_, refl, sym, ap, _∙_}
+use Prim.Native.Nat.{ℕ, _+_, _*_, _≤_, _<_}
+use native.Mathlib.Decide.{ℕ-discrete}
+use native.Mathlib.Omega.{arith}
+use borrow.Author.Tests.{eq-eqb, ne-eqb, le-leb}
+use lib.Dec.{eqb, lit<}
+use lib.ListN.{length, getD}
+use Rattle.tables.specs.declared.Answer.{Answer}
+use Rattle.tables.specs.declared.Answer.the-variants.{Accepted, Refused}
+use Rattle.tables.specs.Answer.{left}
+use Rattle.tables.specs.Grid.{place}
+use Rattle.tables.proofs.Grid.{grid-at}
+use Rattle.tables.proofs.Tabulate.{tabulate-length}
+use Rattle.payload.specs.Word.{Bytes, Words}
+use Rattle.payload.specs.Block.{bodyWord, blockWord, blockByte}
+use Rattle.payload.specs.File.{blocksFor, payloadIn, payloadWord, payloadOf, fileOf, OneChange}
+use Rattle.payload.proofs.Words.{word-is}
+use Rattle.payload.proofs.Files.{file-length}
+use Rattle.block.specs.declared.Kind.{Kind}
+use Rattle.block.specs.declared.Kind.the-variants.{Corridor, Demands, DemandsDownstream, Record, Plan}
+use Rattle.block.specs.Kinds.{Told, kindNumber, listLength, kindWord, fileKind, listKind}
+use Rattle.block.specs.Calls.{toldFits, readAnswer, wordsRead, writeAnswer, fileWritten}
+use Rattle.block.proofs.Calls.{told-is, length-low, read-kept, write-kept}
+use Rattle.block.proofs.EachKind.{number-fits, wrote, got, written-then-read, read-then-written, change-seen}
+
+-- ---- word 0 of a file's first block
+
+-- a file of at least one word opens with its kind's number
+opens-with : (number : ℕ) (words : List ℕ) → number < 4294967296 → 1 ≤ length words → kindWord (fileOf number words) ≡ number
+unfolding kindWord fileOf blockWord bodyWord
+opens-with number words h l =
+    let size : length (fileOf number words) ≡ blocksFor (length words) * 512 = file-length number words in
+    rw (le-leb 4 (length (fileOf number words)) (omega arith))
+    (word-is (fileOf number words) 0 number h
+    (λ q b.
+    let e : 0 * 4 + q ≡ place 4 128 0 0 q = omega arith in
+    ap (λ (j : ℕ). getD (fileOf number words) j 0) e
+    ∙ grid-at 4 128 (blocksFor (length words)) (λ t. blockByte number t (payloadIn words t)) 0 0 q 0 (omega arith) (lit< tt) b))
+
+-- nothing else of a file chooses
+same-word : (p : Kind) (file other : List ℕ) → kindWord other ≡ kindWord file → fileKind p other ≡ fileKind p file
+unfolding fileKind
+same-word Corridor file other e = refl
+same-word Demands file other e = rw e
+same-word DemandsDownstream file other e = refl
+same-word Record file other e = refl
+same-word Plan file other e = refl
+
+-- ---- a list and its file choose alike
+
+-- of demands whose file opens with the number of their kind
+numbered : (downstream : Bool) (file : List ℕ) → kindWord file ≡ kindNumber (cond downstream DemandsDownstream Demands)
+    → fileKind Demands file ≡ cond downstream DemandsDownstream Demands
+unfolding fileKind kindNumber
+numbered true file e = rw e
+numbered false file e = rw e
+
+pub written-kind : (p : Kind) (n k : ℕ) (words : List ℕ) (room : ℕ) → writeAnswer (listKind p n k (length words)) n k words room ≡ Accepted
+    → fileKind p (fileOf (kindNumber (listKind p n k (length words))) words) ≡ listKind p n k (length words)
+unfolding fileKind listKind
+written-kind Corridor n k words room a = refl
+written-kind Demands n k words room a =
+    let kind : Kind = listKind Demands n k (length words) in
+    let w = write-kept kind n k words room .0 a in
+    let list : length words ≡ listLength kind n k = w .list in
+    numbered (eqb (length words) (listLength DemandsDownstream n k)) (fileOf (kindNumber kind) words)
+    (opens-with (kindNumber kind) words (number-fits kind) (omega (arith, length-low kind n k (told-is n k (toldFits n k) refl (w .told)))))
+written-kind DemandsDownstream n k words room a = refl
+written-kind Record n k words room a = refl
+written-kind Plan n k words room a = refl
+
+-- of demands as long as their kind: K is not 0, so the two lengths differ
+measured : (downstream : Bool) (n k : ℕ) → Told n k
+    → listKind Demands n k (listLength (cond downstream DemandsDownstream Demands) n k) ≡ cond downstream DemandsDownstream Demands
+unfolding listKind listLength
+measured true n k t = rw (eq-eqb (listLength DemandsDownstream n k) (listLength DemandsDownstream n k) refl)
+measured false n k t = rw (ne-eqb (listLength Demands n k) (listLength DemandsDownstream n k) (omega (arith, t .stepsLow)))
+
+pub read-kind : (p : Kind) (n k : ℕ) (file : List ℕ) → Told n k → listKind p n k (listLength (fileKind p file) n k) ≡ fileKind p file
+unfolding fileKind listKind
+read-kind Corridor n k file t = refl
+read-kind Demands n k file t = measured (eqb (kindWord file) (kindNumber DemandsDownstream)) n k t
+read-kind DemandsDownstream n k file t = refl
+read-kind Record n k file t = refl
+read-kind Plan n k file t = refl
+
+-- ---- words written and then read come back the same
+
+module _ (p : Kind) (n k : ℕ) (words file lent : List ℕ) (fits : Words words) (written : writeAnswer (listKind p n k (length words)) n k words (length file) ≡ Accepted) (room : length lent ≡ length words) where
+  pub chosen-written-then-read :
+      let made : List ℕ = fileWritten (listKind p n k (length words)) n k words file in
+      (readAnswer (fileKind p made) n k made (length lent) ≡ Accepted) × (wordsRead (fileKind p made) n k made lent ≡ words)
+  chosen-written-then-read =
+      let kind : Kind = listKind p n k (length words) in
+      let chosen : fileKind p (fileWritten kind n k words file) ≡ kind =
+      ap (fileKind p) (wrote kind n k words file lent fits written room) ∙ written-kind p n k words (length file) written in
+      rw chosen (written-then-read kind n k words file lent fits written room)
+
+-- ---- an accepted file read and rewritten has the same bytes
+
+module _ (p : Kind) (n k : ℕ) (file words lent : List ℕ) (fits : Bytes file) (read : readAnswer (fileKind p file) n k file (length words) ≡ Accepted) (room : length lent ≡ length file) where
+  pub chosen-read-then-written :
+      let list : List ℕ = wordsRead (fileKind p file) n k file words in
+      (writeAnswer (listKind p n k (length list)) n k list (length lent) ≡ Accepted) × (fileWritten (listKind p n k (length list)) n k list lent ≡ file)
+  chosen-read-then-written =
+      let kind : Kind = fileKind p file in
+      let told = told-is n k (toldFits n k) refl (read-kept kind n k file (length words) .0 read .told) in
+      let size : length (wordsRead kind n k file words) ≡ listLength kind n k =
+      ap length (got kind n k file words lent fits read room) ∙ tabulate-length (listLength kind n k) (payloadWord file) in
+      let chosen : listKind p n k (length (wordsRead kind n k file words)) ≡ kind = ap (listKind p n k) size ∙ read-kind p n k file told in
+      rw chosen (read-then-written kind n k file words lent fits read room)
+
+-- ---- any change to just one of words 0..126 of a block is seen
+
+-- only a change of word 0 of block 0 can have the file read as another kind
+pub kind-kept : (p : Kind) (file other : List ℕ) (t i : ℕ) → OneChange file other t i → t * 128 + i ≢ 0 → fileKind p other ≡ fileKind p file
+unfolding kindWord
+kind-kept p file other t i change d = same-word p file other (rw (change .same, change .others 0 (λ e. d (sym e))))
+
+-- the kinds of a place differ in length
+same-length : (p : Kind) (n k : ℕ) (file other : List ℕ) → Told n k → listLength (fileKind p other) n k ≡ listLength (fileKind p file) n k
+    → fileKind p other ≡ fileKind p file
+same-length p n k file other t e = sym (read-kind p n k other t) ∙ ap (listKind p n k) e ∙ read-kind p n k file t
+
+-- a file of another kind is refused by 1, since the list that was lent has the length of the first, and stays
+pub other-kind-seen : (p : Kind) (n k : ℕ) (file other lent : List ℕ) → readAnswer (fileKind p file) n k file (length lent) ≡ Accepted → fileKind p other ≢ fileKind p file
+    → (readAnswer (fileKind p other) n k other (length lent) ≡ Refused 1 0 0) × (wordsRead (fileKind p other) n k other lent ≡ lent)
+unfolding readAnswer wordsRead
+other-kind-seen p n k file other lent read d =
+    let kept = read-kept (fileKind p file) n k file (length lent) .0 read in
+    let told = told-is n k (toldFits n k) refl (kept .told) in
+    let wrong : length lent ≢ listLength (fileKind p other) n k = λ e. d (same-length p n k file other told (sym e ∙ kept .fits)) in
+    let answered : readAnswer (fileKind p other) n k other (length lent) ≡ Refused 1 0 0 =
+    rw (kept .told, ne-eqb (length lent) (listLength (fileKind p other) n k) wrong) in
+    (answered, ap (λ (a : Answer). left a (payloadOf (listLength (fileKind p other) n k) other) lent) answered)
+
+module _ (p : Kind) (n k : ℕ) (file other lent : List ℕ) (t i : ℕ) (hf : Bytes file) (ho : Bytes other) (within : i < 127) (change : OneChange file other t i) (read : readAnswer (fileKind p file) n k file (length lent) ≡ Accepted) (h : t < blocksFor (listLength (fileKind p file) n k)) where
+  -- one of the same kind by 15 at that block
+  pub chosen-change-seen : fileKind p other ≡ fileKind p file
+      → (readAnswer (fileKind p other) n k other (length lent) ≡ Refused 15 t 0) × (wordsRead (fileKind p other) n k other lent ≡ lent)
+  chosen-change-seen same = rw same (change-seen (fileKind p file) n k file other lent t i hf ho within change read h)
+
+  -- so each change is refused
+  pub chosen-change-refused : (readAnswer (fileKind p other) n k other (length lent) ≡ Refused 15 t 0)
+      ⊎ ((t * 128 + i ≡ 0) × (readAnswer (fileKind p other) n k other (length lent) ≡ Refused 1 0 0))
+  chosen-change-refused =
+      let told = told-is n k (toldFits n k) refl (read-kept (fileKind p file) n k file (length lent) .0 read .told) in
+      elim (ℕ-discrete (listLength (fileKind p other) n k) (listLength (fileKind p file) n k)) [
+        | yes e ↦ inl (chosen-change-seen (same-length p n k file other told e) .0)
+        | no d ↦
+            let differs : fileKind p other ≢ fileKind p file = λ e. d (ap (λ (kind : Kind). listLength kind n k) e) in
+            inr (by (ℕ-discrete (t * 128 + i) 0) differs, other-kind-seen p n k file other lent read differs .0)
+      ]
+    where
+      by : Dec (t * 128 + i ≡ 0) → fileKind p other ≢ fileKind p file → t * 128 + i ≡ 0
+      by (yes e) d = e
+      by (no c) d = absurd (d (kind-kept p file other t i change c))
