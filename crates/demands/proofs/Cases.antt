@@ -13,7 +13,7 @@ use Rattle.settings.proofs.Cases.{cases as node-cases}
 use Rattle.payload.proofs.Cases.{cases as file-cases}
 use Rattle.lists.specs.Words.{linksOf, nodeAt, stepsOf, roadOf, planOf, planWord, planWords, traceOf}
 use Rattle.faults.specs.Lists.{linkFault, rampFault, startFault, demandFault}
-use Rattle.lists.specs.Refusals.{sizes, fresh, linkRefusal, rampRefusal, startRefusal, demandRefusal, ranges}
+use Rattle.lists.specs.Refusals.{demandsSized, sizes, fresh, linkRefusal, rampRefusal, startRefusal, demandRefusal, ranges}
 use Rattle.simulate.proofs.Case.{case-1}
 use Rattle.faults.specs.Records.{fixedFault, stepFault, totalFault}
 use Rattle.convert.specs.Refusals.{costFault, judged}
@@ -21,7 +21,7 @@ use Rattle.convert.specs.Convert.{settingAt, planFor, converted, convertAnswer}
 use Rattle.demands.specs.Cases.{Cases}
 
 pub cases : Cases
-unfolding first cell grid leastFrom sum tabulate sending exit through offer receiving passed merge flowsWith outflow moved supply junction inflow next cost fullFlows gives rateFor heldLimit settingFor linksOf nodeAt stepsOf roadOf planOf planWord planWords traceOf sizes linkFault fresh rampFault startFault demandFault linkRefusal rampRefusal startRefusal demandRefusal ranges fixedFault stepFault totalFault costFault judged settingAt planFor converted convertAnswer
+unfolding first cell grid leastFrom sum tabulate sending exit through offer receiving passed merge flowsWith outflow moved supply junction inflow next cost fullFlows gives rateFor heldLimit settingFor linksOf nodeAt stepsOf roadOf planOf planWord planWords traceOf demandsSized sizes linkFault fresh rampFault startFault demandFault linkRefusal rampRefusal startRefusal demandRefusal ranges fixedFault stepFault totalFault costFault judged settingAt planFor converted convertAnswer
 cases =
     record {
       case-1-sending = node-cases .case-1-sending;

@@ -18,29 +18,34 @@ use Rattle.convert.specs.Refusals.{judged}
 use Rattle.convert.specs.Convert.{checkAnswer}
 use Rattle.convert.proofs.Answers.{check-rest, recordTest}
 use Rattle.payload.specs.File.{blocksFor, payloadWord}
+use Rattle.block.specs.declared.Kind.{Kind}
 use Rattle.block.specs.declared.Kind.the-variants.{Corridor, Demands, Record, Plan}
-use Rattle.block.specs.Kinds.{Told, listLength, ownAgrees}
+use Rattle.block.specs.Kinds.{Told, listLength, ownAgrees, fileKind}
 use Rattle.block.specs.Calls.{toldFits, fileAnswer}
 use Rattle.block.proofs.Calls.{told-is, file-kept, file-bytes}
 use Rattle.files.specs.Files.{corridorIn, demandsIn, recordIn, filesAnswer, readThenCheck, checkFiles, convertFiles, planFile, planWritten}
 use Rattle.files.specs.Fits.{FilesFit, Accepts, wordsAnswer}
+use Rattle.files.proofs.Demands.{demands-own}
 use Rattle.files.proofs.Contents.{read-sizes, read-length}
 
--- ---- the three files in turn: a, b and c are their answers as calls gave them
+-- ---- the three files in turn: a, b and c are their answers as calls gave them, and kind what the demands' file chose
 
 module _ (n k : ℕ) (corridor demands recorded : List ℕ) (a : Answer) (e : a ≡ fileAnswer Corridor n k corridor) where
   pub files-first : Refuses a → a ≡ filesAnswer n k corridor demands recorded
   unfolding filesAnswer
   files-first h = or-else-stop a _ _ e h
 
-  module _ (h : a ≡ Accepted) (b : Answer) (f : b ≡ fileAnswer Demands n k demands) where
+  module _ (h : a ≡ Accepted) (kind : Kind) (d : kind ≡ fileKind Demands demands) (b : Answer) (g : b ≡ fileAnswer kind n k demands) where
+    f : b ≡ fileAnswer (fileKind Demands demands) n k demands
+    f = g ∙ ap (λ (x : Kind). fileAnswer x n k demands) d
+
     pub files-second : Refuses b → b ≡ filesAnswer n k corridor demands recorded
     unfolding filesAnswer
-    files-second g = or-else-next a b _ _ e h (or-else-stop b _ _ f g)
+    files-second r = or-else-next a b _ _ e h (or-else-stop b _ _ f r)
 
     pub files-third : b ≡ Accepted → (c : Answer) → c ≡ fileAnswer Record n k recorded → c ≡ filesAnswer n k corridor demands recorded
     unfolding filesAnswer
-    files-third g c q = or-else-next a c _ _ e h (or-else-next b c _ _ f g q)
+    files-third r c q = or-else-next a c _ _ e h (or-else-next b c _ _ f r q)
 
 -- ---- what files that were read keep
 
@@ -49,14 +54,14 @@ pub files-fit : (n k : ℕ) (corridor demands recorded : List ℕ) (a : Answer) 
 unfolding filesAnswer ownAgrees listLength
 files-fit n k corridor demands recorded a told e h =
     let r = orElse-accepts (fileAnswer Corridor n k corridor) _ .0 (sym e ∙ h) in
-    let s = orElse-accepts (fileAnswer Demands n k demands) (fileAnswer Record n k recorded) .0 (r .1) in
+    let s = orElse-accepts (fileAnswer (fileKind Demands demands) n k demands) (fileAnswer Record n k recorded) .0 (r .1) in
     record {
       told = told;
       corridorHolds = file-bytes Corridor n k corridor _ refl (r .0);
-      demandsHold = file-bytes Demands n k demands _ refl (s .0);
+      demandsHold = file-bytes (fileKind Demands demands) n k demands _ refl (s .0);
       recordHolds = file-bytes Record n k recorded _ refl (s .1);
       ownLinks = eqb-true (payloadWord corridor 0) n (file-kept Corridor n k corridor .0 (r .0) .own);
-      ownSteps = eqb-true (payloadWord demands 0) k (file-kept Demands n k demands .0 (s .0) .own);
+      ownSteps = eqb-true (payloadWord demands 0) k (sym (demands-own n k demands) ∙ file-kept (fileKind Demands demands) n k demands .0 (s .0) .own);
     }
 
 -- ---- then the recorded in them: a is the answer of the readers, b that of the checks

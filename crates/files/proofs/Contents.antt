@@ -12,17 +12,18 @@ use Rattle.tables.proofs.Answers.{Refuses, or-else-stop, or-else-next}
 use Rattle.tables.proofs.Tabulate.{tabulate-length, tabulate-at}
 use Rattle.road.specs.Run.{cost}
 use Rattle.faults.specs.Records.{totalFault}
-use Rattle.lists.specs.Words.{linksOf, stepsOf, roadOf, recordWidth, traceOf, corridorLength, demandsLength, traceLength, recordLength}
+use Rattle.lists.specs.Words.{linksOf, stepsOf, roadOf, recordWidth, traceOf, corridorLength, traceLength, recordLength}
 use Rattle.lists.specs.Refusals.{sizes, ranges}
 use Rattle.lists.specs.Fits.{CorridorFits, DemandsFit}
-use Rattle.lists.proofs.Limits.{sizes-iff}
+use Rattle.lists.proofs.Limits.{DemandsSized, sizes-iff}
 use Rattle.convert.specs.Refusals.{costFault, judged}
 use Rattle.convert.specs.Rows.{bareRoad, fixedRefusal, stepsRefusal, Ready}
 use Rattle.convert.proofs.Answers.{ready, ready-as, cost-told, judged-fixed, judged-steps, judged-cost}
 use Rattle.payload.specs.File.{blocksFor, payloadWord, payloadPart}
 use Rattle.payload.proofs.Payloads.{payload-all}
-use Rattle.files.specs.Files.{corridorIn, demandsIn, recordIn}
+use Rattle.files.specs.Files.{corridorIn, demandsCount, demandsIn, recordIn}
 use Rattle.files.specs.Fits.{Holds, FilesFit, Accepts, wordsAnswer, FilesReady, FilesKept}
+use Rattle.files.proofs.Demands.{count-low, count-sized}
 
 -- the cost's two words, read where they stand: v is the fault's number as the code has it, and a the answer that is made of it
 pub cost-read : (links steps at w total v low high : ℕ) (file : List ℕ) (a : Answer) → low ≡ payloadWord file at → high ≡ payloadWord file (at + 1)
@@ -45,7 +46,7 @@ module _ (links steps : ℕ) (corridor demands recorded : List ℕ) (fit : Files
 
   pub own-steps : stepsOf (demandsIn links steps demands) ≡ steps
   unfolding stepsOf
-  own-steps = tabulate-at (demandsLength links steps) (payloadWord demands) 0 0 (omega arith) ∙ fit .ownSteps
+  own-steps = tabulate-at (demandsCount links steps demands) (payloadWord demands) 0 0 (omega (arith, count-low links steps demands)) ∙ fit .ownSteps
 
   pub read-sizes : sizes (corridorIn links corridor) (demandsIn links steps demands) ≡ true
   read-sizes =
@@ -57,7 +58,9 @@ module _ (links steps : ℕ) (corridor demands recorded : List ℕ) (fit : Files
         links = record { above = omega (arith, told .linksLow); below = omega (arith, told .linksHigh) };
         steps = record { above = omega (arith, told .stepsLow); below = omega (arith, told .stepsHigh) };
         corridorFits = tabulate-length (corridorLength links) (payloadWord corridor) ∙ ap corridorLength (sym n);
-        demandsFit = tabulate-length (demandsLength links steps) (payloadWord demands) ∙ ap₂ demandsLength (sym n) (sym k);
+        demandsFit =
+            subst₂ (λ (l s : ℕ). DemandsSized l s (length (demandsIn links steps demands))) (sym n) (sym k)
+            (subst (DemandsSized links steps) (sym (tabulate-length (demandsCount links steps demands) (payloadWord demands))) (count-sized links steps demands));
       })
 
   pub read-length : length (recordIn recordWidth links steps recorded) ≡ recordLength recordWidth (linksOf (corridorIn links corridor)) (stepsOf (demandsIn links steps demands))
@@ -86,7 +89,7 @@ module _ (links steps : ℕ) (corridor demands recorded : List ℕ) (fit : Files
           first = sym own-steps;
           few = fit .told .linksHigh;
           short = fit .told .stepsHigh;
-          words = tabulate-length (demandsLength links steps) (payloadWord demands);
+          words = omega (arith, tabulate-length (demandsCount links steps demands) (payloadWord demands), count-low links steps demands);
         }
 
     list-ready : (a : Answer) → a ≡ ranges (roadOf list (demandsIn links steps demands)) → a ≡ Accepted

@@ -1,3 +1,4 @@
+pub mod Demands
 pub mod Rows
 pub mod Contents
 pub mod Plans

@@ -8,7 +8,7 @@ use lib.ListN.{length, take, drop}
 use Rattle.tables.proofs.Grid.{rowWords-length}
 use Rattle.tables.proofs.Numbers.{row-fits}
 use Rattle.tables.proofs.Tabulate.{tabulate-length}
-use Rattle.lists.specs.Words.{free, recordWidth, planLength, corridorLength}
+use Rattle.lists.specs.Words.{recordWidth, planLength, corridorLength}
 use Rattle.lists.proofs.Words.{record-wide}
 use Rattle.convert.specs.Convert.{converted}
 use Rattle.convert.specs.Rows.{planRow, settingWord, Ready}
@@ -20,7 +20,7 @@ use Rattle.block.specs.declared.Kind.the-variants.{Plan}
 use Rattle.block.specs.Kinds.{Told, kindNumber, listLength}
 use Rattle.block.proofs.Calls.{length-high}
 use Rattle.files.specs.Files.{demandsIn, recordIn, planFile}
-use Rattle.files.specs.Fits.{Holds, FilesFit, demandRowIn, stateRowIn, planRowIn}
+use Rattle.files.specs.Fits.{Holds, FilesFit, demandRowIn, downstreamIn, stateRowIn, planRowIn}
 use Rattle.files.proofs.Rows.{demand-part, state-part}
 use Rattle.files.proofs.Contents.{corridor-read}
 
@@ -36,13 +36,13 @@ put-begun corridor demands recorded links steps lent h =
 
 -- the plan's row of step k, in the words of the lists
 row-read : (corridor demands recorded : List ℕ) (links steps k : ℕ) → k < steps
-    → planRowIn corridor links demands recorded k
+    → planRowIn corridor links steps demands recorded k
     ≡ planRow recordWidth corridor links
     (take (1 + k * ((links + 1) * 2) + (links + 1) * 2 - (1 + k * ((links + 1) * 2))) (drop (1 + k * ((links + 1) * 2)) (demandsIn links steps demands)))
-    free
+    (downstreamIn links steps demands k)
     (take (k * (suc links * recordWidth) + suc links * recordWidth - k * (suc links * recordWidth)) (drop (k * (suc links * recordWidth)) (recordIn recordWidth links steps recorded)))
 row-read corridor demands recorded links steps k h =
-    ap₂ (λ (x y : List ℕ). planRow recordWidth corridor links x free y) (demand-part links steps k demands _ refl h)
+    ap₂ (λ (x y : List ℕ). planRow recordWidth corridor links x (downstreamIn links steps demands k) y) (demand-part links steps k demands _ refl h)
     (state-part recordWidth record-wide links steps recorded k _ refl (omega arith))
 
 row-count : (corridor demand : List ℕ) (downstream : ℕ) (row : List ℕ) (links : ℕ) → length (planRow recordWidth corridor links demand downstream row) ≡ (links + 1) * 2
@@ -60,29 +60,29 @@ put-fits links steps at room downstream corridor demand row out e f h =
     omega arith
 
 -- r is where it starts
-pub put-told : (links k r downstream : ℕ) (corridor demands recorded demand row out : List ℕ) (lent : List ℕ) {file : List ℕ} → out ≡ planRow recordWidth corridor links demand downstream row
-    → downstream ≡ free → demand ≡ demandRowIn links demands k → row ≡ stateRowIn recordWidth links recorded k → r ≡ k * ((links + 1) * 2) → (file ≡ putPayload lent r out) × Words out
-    → (file ≡ putPayload lent (k * ((links + 1) * 2)) (planRowIn corridor links demands recorded k)) × Words (planRowIn corridor links demands recorded k)
-put-told links k r downstream corridor demands recorded demand row out lent o f d w e told =
-    let is : out ≡ planRowIn corridor links demands recorded k = o ∙ (λ z. planRow recordWidth corridor links (d z) (f z) (w z)) in
+pub put-told : (links steps k r downstream : ℕ) (corridor demands recorded demand row out : List ℕ) (lent : List ℕ) {file : List ℕ} → out ≡ planRow recordWidth corridor links demand downstream row
+    → downstream ≡ downstreamIn links steps demands k → demand ≡ demandRowIn links demands k → row ≡ stateRowIn recordWidth links recorded k → r ≡ k * ((links + 1) * 2) → (file ≡ putPayload lent r out) × Words out
+    → (file ≡ putPayload lent (k * ((links + 1) * 2)) (planRowIn corridor links steps demands recorded k)) × Words (planRowIn corridor links steps demands recorded k)
+put-told links steps k r downstream corridor demands recorded demand row out lent o f d w e told =
+    let is : out ≡ planRowIn corridor links steps demands recorded k = o ∙ (λ z. planRow recordWidth corridor links (d z) (f z) (w z)) in
     (told .0 ∙ ap₂ (putPayload lent) e is, subst Words is (told .1))
 
 module _ (corridor demands recorded : List ℕ) (links steps : ℕ) (ready : Ready recordWidth corridor (demandsIn links steps demands) (recordIn recordWidth links steps recorded) links steps) where
   pub put-more : (k : ℕ) (lent file file′ : List ℕ) → PlanPut corridor demands recorded links steps k lent file → k < steps
-      → file′ ≡ putPayload file (k * ((links + 1) * 2)) (planRowIn corridor links demands recorded k) → Words (planRowIn corridor links demands recorded k)
+      → file′ ≡ putPayload file (k * ((links + 1) * 2)) (planRowIn corridor links steps demands recorded k) → Words (planRowIn corridor links steps demands recorded k)
       → PlanPut corridor demands recorded links steps (k + 1) lent file′
   put-more k lent file file′ p h e w =
       let m : ℕ = planLength links steps in
       let r : ℕ = k * ((links + 1) * 2) in
-      let ys : List ℕ = planRowIn corridor links demands recorded k in
-      let n : length (planRowIn corridor links demands recorded k) ≡ (links + 1) * 2 = row-count corridor _ _ _ links in
+      let ys : List ℕ = planRowIn corridor links steps demands recorded k in
+      let n : length (planRowIn corridor links steps demands recorded k) ≡ (links + 1) * 2 = row-count corridor _ _ _ links in
       let put : payloadOf m file′ ≡ putMid r (r + (links + 1) * 2 - r) (payloadOf m file) ys =
       ap (payloadOf m) e
       ∙ payload-put m r file ys w (omega (arith, row-fits k steps ((links + 1) * 2) h)) (omega (arith, p .holds))
       ∙ ap (λ (x : ℕ). putMid r (r + x - r) (payloadOf m file) ys) n in
       record {
         rows = subst (λ (x : List ℕ). PlanRows corridor (demandsIn links steps demands) (recordIn recordWidth links steps recorded) links steps (k + 1) (payloadOf m lent) x) (sym put)
-            (plan-more corridor _ _ links steps ready k r (k * (suc links * recordWidth)) (suc links * recordWidth) free _ _ ys (p .rows) h refl refl refl refl (row-read corridor demands recorded links steps k h));
+            (plan-more corridor _ _ links steps ready k r (k * (suc links * recordWidth)) (suc links * recordWidth) (downstreamIn links steps demands k) _ _ ys (p .rows) h refl refl refl refl (row-read corridor demands recorded links steps k h));
         holds = ap length e ∙ put-length-same file r ys ∙ p .holds;
       }
 

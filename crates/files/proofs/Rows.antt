@@ -4,14 +4,14 @@ use mathlib.Core.List.{List}
 use mathlib.Core.Path.{_≡_, refl, sym, ap, ap₂, subst, _∙_}
 use native.Mathlib.Numerals.{add-one}
 use native.Mathlib.Omega.{arith}
-use lib.ListN.{length, take, drop}
+use lib.ListN.{length, getD, take, drop}
 use Rattle.tables.specs.declared.Answer.{Answer}
 use Rattle.tables.specs.declared.Answer.the-variants.{Accepted}
 use Rattle.tables.specs.First.{firstNode}
 use Rattle.tables.proofs.Numbers.{row-fits}
 use Rattle.tables.proofs.Tabulate.{tabulate-length}
 use Rattle.lists.specs.declared.inner.scans.NodeTest.{NodeTest}
-use Rattle.lists.specs.Words.{linksOf, free, roadOf, recordWidth, Width, traceOf, demandsLength, recordLength}
+use Rattle.lists.specs.Words.{linksOf, free, roadOf, recordWidth, Width, traceOf, recordLength}
 use Rattle.lists.specs.Fits.{RowFits}
 use Rattle.lists.specs.Scans.{nodeFaultIn, nodeFaultAt}
 use Rattle.lists.proofs.Scans.{row-told}
@@ -24,8 +24,9 @@ use Rattle.convert.proofs.Rows.{TraceRow, fixed-row-told, demand-lent, trace-le
 use Rattle.convert.proofs.Answers.{row-cost-told}
 use Rattle.payload.specs.File.{blocksFor, payloadPart}
 use Rattle.payload.proofs.Payloads.{payload-part}
-use Rattle.files.specs.Files.{demandsIn, recordIn}
-use Rattle.files.specs.Fits.{Holds, demandRowIn, stateRowIn}
+use Rattle.files.specs.Files.{demandsCount, demandsIn, recordIn}
+use Rattle.files.specs.Fits.{Holds, demandRowIn, downstreamIn, stateRowIn}
+use Rattle.files.proofs.Demands.{count-low}
 
 -- ---- a row of n words from word `from` on, as the code has these numbers
 
@@ -38,6 +39,11 @@ demand-length links k file row told = ap length told ∙ tabulate-length ((links
 pub state-length : (width links k : ℕ) (file row : List ℕ) → row ≡ stateRowIn width links file k → RowFits width row links
 state-length width links k file row told = ap length told ∙ tabulate-length (suc links * width) _
 
+-- a row of the demands that begins one word past `at` lies in the file
+pub demand-holds : (links steps at count : ℕ) (file : List ℕ) → at + (links + 1) * 2 ≤ steps * ((links + 1) * 2) → Holds (demandsCount links steps file) file
+    → count ≡ (links + 1) * 2 → blocksFor (1 + at + count) * 512 ≤ length file
+demand-holds links steps at count file h e c = omega (arith, count-low links steps file, ap (λ (n : ℕ). steps * (n * 2)) (add-one links))
+
 -- a record's row of w words that begins at `at`, as calls gave them, lies in the file
 pub state-holds : (links steps at w count : ℕ) (file : List ℕ) → at + w ≤ (steps + 1) * w → w ≡ suc links * recordWidth → count ≡ suc links * recordWidth
     → Holds (recordLength recordWidth links steps) file → blocksFor (at + count) * 512 ≤ length file
@@ -47,13 +53,17 @@ state-holds links steps at w count file h q c e = omega (arith, ap (λ (x : ℕ)
 
 module _ (links steps k : ℕ) (file row : List ℕ) (told : row ≡ demandRowIn links file k) (h : k < steps) where
   pub demand-part : row ≡ take (1 + k * ((links + 1) * 2) + (links + 1) * 2 - (1 + k * ((links + 1) * 2))) (drop (1 + k * ((links + 1) * 2)) (demandsIn links steps file))
-  demand-part = told ∙ payload-part (1 + k * ((links + 1) * 2)) ((links + 1) * 2) (demandsLength links steps) file (omega (arith, row-fits k steps ((links + 1) * 2) h))
+  demand-part =
+      told
+      ∙ payload-part (1 + k * ((links + 1) * 2)) ((links + 1) * 2) (demandsCount links steps file) file
+      (omega (arith, row-fits k steps ((links + 1) * 2) h, count-low links steps file, ap (λ (n : ℕ). steps * (n * 2)) (add-one links)))
 
-  pub demand-found : (test : NodeTest) (corridor : List ℕ) (a : Answer) → a ≡ firstNode (suc links) k (nodeFaultIn test corridor links row)
-      → a ≡ firstNode (suc links) k (nodeFaultAt test corridor links 1 (demandsIn links steps file) k)
-  demand-found test corridor a found =
-      row-told test corridor (demandsIn links steps file) links 1 k (k * ((links + 1) * 2)) a
-      (subst (λ (x : List ℕ). a ≡ firstNode (suc links) k (nodeFaultIn test corridor links x)) demand-part found) refl
+  pub demand-found : (test : NodeTest) (corridor : List ℕ) (downstream : ℕ) (a : Answer) → a ≡ firstNode (suc links) k (nodeFaultIn test corridor links row downstream)
+      → downstream ≡ downstreamIn links steps file k → a ≡ firstNode (suc links) k (nodeFaultAt test corridor links steps 1 (demandsIn links steps file) k)
+  demand-found test corridor downstream a found beyond =
+      row-told test corridor (demandsIn links steps file) links steps 1 k (k * ((links + 1) * 2)) (steps * ((links + 1) * 2)) downstream a
+      (subst (λ (x : List ℕ). a ≡ firstNode (suc links) k (nodeFaultIn test corridor links x downstream)) demand-part found) refl refl
+      (beyond ∙ ap (λ (n : ℕ). getD (demandsIn links steps file) (1 + steps * (n * 2) + k) free) (sym (add-one links)))
 
 module _ (width : ℕ) (wide : Width width) (links steps : ℕ) (file : List ℕ) where
   pub state-part : (k : ℕ) (row : List ℕ) → row ≡ stateRowIn width links file k → k ≤ steps
@@ -92,7 +102,7 @@ module _ (width : ℕ) (corridor demands recorded : List ℕ) (links steps : ℕ
     row-read : TraceRow width (linksOf corridor) (traceOf width (roadOf corridor (demandsIn links steps demands)) (recordIn width links steps recorded)) k row
     row-read = state-read k row t (omega arith)
 
-    pub step-found : (downstream : ℕ) → downstream ≡ free → (after : List ℕ) (a : Answer) → after ≡ stateRowIn width links recorded (k + 1)
+    pub step-found : (downstream : ℕ) → downstream ≡ downstreamIn links steps demands k → (after : List ℕ) (a : Answer) → after ≡ stateRowIn width links recorded (k + 1)
         → a ≡ firstNode (suc links) k (stepFaultIn width corridor demand downstream row after)
         → a ≡ stepRefusal width corridor (demandsIn links steps demands) links (recordIn width links steps recorded) k
     step-found downstream f after a told =
@@ -100,7 +110,7 @@ module _ (width : ℕ) (corridor demands recorded : List ℕ) (links steps : ℕ
         (subst (λ (j : ℕ). TraceRow width (linksOf corridor) (traceOf width (roadOf corridor (demandsIn links steps demands)) (recordIn width links steps recorded)) j after) (add-one k)
         (state-read (k + 1) after told (omega arith)))
 
-    pub setting-found : (downstream : ℕ) → downstream ≡ free → (i : ℕ) → i ≤ links → settingIn width corridor demand downstream row i
+    pub setting-found : (downstream : ℕ) → downstream ≡ downstreamIn links steps demands k → (i : ℕ) → i ≤ links → settingIn width corridor demand downstream row i
         ≡ settingAt (roadOf corridor (demandsIn links steps demands)) (traceOf width (roadOf corridor (demandsIn links steps demands)) (recordIn width links steps recorded)) k i
     setting-found downstream f i b = row-setting width corridor _ _ links steps ready k demand row demand-read row-read downstream f i (omega (arith, ready .corridorFits .first))
 
@@ -113,7 +123,7 @@ module _ (width : ℕ) (corridor demands recorded : List ℕ) (links steps : ℕ
           demandFits = demand-length links k demands demand d;
           rowFits = state-length width links k recorded row t;
           wide = ready .wide;
-          kept = step-kept width corridor _ _ links steps ready k demand row demand-read row-read free refl fixed before h;
+          kept = step-kept width corridor _ _ links steps ready k demand row demand-read row-read (downstreamIn links steps demands k) refl fixed before h;
         }
 
     module _ (accepted : judged width (roadOf corridor (demandsIn links steps demands)) (recordIn width links steps recorded) ≡ Accepted) where
@@ -124,8 +134,8 @@ module _ (width : ℕ) (corridor demands recorded : List ℕ) (links steps : ℕ
             demandFits = demand-length links k demands demand d;
             rowFits = state-length width links k recorded row t;
             wide = ready .wide;
-            kept = plan-kept width corridor _ _ links steps ready k demand row demand-read row-read free refl accepted h;
+            kept = plan-kept width corridor _ _ links steps ready k demand row demand-read row-read (downstreamIn links steps demands k) refl accepted h;
           }
 
       pub plan-sends : SentKept width row links
-      plan-sends = plan-sent width corridor _ _ links steps ready k demand row demand-read row-read free refl accepted h
+      plan-sends = plan-sent width corridor _ _ links steps ready k demand row demand-read row-read (downstreamIn links steps demands k) refl accepted h

@@ -20,7 +20,7 @@ use Rattle.convert.specs.Convert.{converted, checkAnswer, convertAnswer}
 use Rattle.payload.specs.File.{blocksFor, payloadOf, fileOf}
 use Rattle.block.specs.declared.Kind.{Kind}
 use Rattle.block.specs.declared.Kind.the-variants.{Corridor, Demands, Record, Plan}
-use Rattle.block.specs.Kinds.{kindNumber, listLength, ownAgrees}
+use Rattle.block.specs.Kinds.{kindNumber, listLength, ownAgrees, fileKind}
 use Rattle.block.specs.Calls.{toldFits, fileAnswer, readAnswer, wordsRead, writeAnswer, fileWritten}
 use Rattle.block.proofs.Calls.{told-is}
 use Rattle.files.specs.Files.{corridorIn, demandsIn, recordIn, filesAnswer, readThenCheck, checkFiles, convertFiles, planFile, planWritten}
@@ -54,18 +54,18 @@ module _ (kind : Kind) (n k : ℕ) (file lent : List ℕ) (told : toldFits n k �
 -- ---- all three
 
 module _ (n k : ℕ) (corridor demands recorded a b c : List ℕ) (told : toldFits n k ≡ true)
-    (p : length a ≡ listLength Corridor n k) (q : length b ≡ listLength Demands n k) (r : length c ≡ listLength Record n k) where
+    (p : length a ≡ listLength Corridor n k) (q : length b ≡ listLength (fileKind Demands demands) n k) (r : length c ≡ listLength Record n k) where
   turns : (rest : List ℕ → List ℕ → List ℕ → Answer)
       → orElse (filesAnswer n k corridor demands recorded) (rest (corridorIn n corridor) (demandsIn n k demands) (recordIn recordWidth n k recorded)) ≡ inTurn n k corridor demands recorded a b c rest
   unfolding filesAnswer inTurn listLength
   turns rest =
       orElse-assoc (fileAnswer Corridor n k corridor) _ _
       ∙ ap (orElse (fileAnswer Corridor n k corridor))
-      (orElse-assoc (fileAnswer Demands n k demands) _ _
-      ∙ ap (orElse (fileAnswer Demands n k demands)) (one-turn Record n k recorded c told r (λ z. rest (corridorIn n corridor) (demandsIn n k demands) z))
-      ∙ one-turn Demands n k demands b told q (λ y. orElse (readAnswer Record n k recorded (length c)) (rest (corridorIn n corridor) y (wordsRead Record n k recorded c))))
+      (orElse-assoc (fileAnswer (fileKind Demands demands) n k demands) _ _
+      ∙ ap (orElse (fileAnswer (fileKind Demands demands) n k demands)) (one-turn Record n k recorded c told r (λ z. rest (corridorIn n corridor) (demandsIn n k demands) z))
+      ∙ one-turn (fileKind Demands demands) n k demands b told q (λ y. orElse (readAnswer Record n k recorded (length c)) (rest (corridorIn n corridor) y (wordsRead Record n k recorded c))))
       ∙ one-turn Corridor n k corridor a told p
-      (λ x. orElse (readAnswer Demands n k demands (length b)) (orElse (readAnswer Record n k recorded (length c)) (rest x (wordsRead Demands n k demands b) (wordsRead Record n k recorded c))))
+      (λ x. orElse (readAnswer (fileKind Demands demands) n k demands (length b)) (orElse (readAnswer Record n k recorded (length c)) (rest x (wordsRead (fileKind Demands demands) n k demands b) (wordsRead Record n k recorded c))))
 
   -- the converter's plan of lists with this N and K has the right length for them
   convert-same : filesAnswer n k corridor demands recorded ≡ Accepted
@@ -100,16 +100,16 @@ module _ (n k : ℕ) (corridor demands recorded a b c : List ℕ) (told : toldFi
 
   written : (lent : List ℕ) → filesAnswer n k corridor demands recorded ≡ Accepted → eqb (length lent) (blocksFor (planLength n k) * 512) ≡ true
       → planFile n k corridor demands recorded
-      ≡ fileWritten Plan n k (converted (wordsRead Corridor n k corridor a) (wordsRead Demands n k demands b) (wordsRead Record n k recorded c)) lent
+      ≡ fileWritten Plan n k (converted (wordsRead Corridor n k corridor a) (wordsRead (fileKind Demands demands) n k demands b) (wordsRead Record n k recorded c)) lent
   unfolding filesAnswer planFile fileWritten listLength
   written lent h room =
       let fit = files-fit n k corridor demands recorded _ (told-is n k _ refl told) refl h in
       let first = orElse-accepts (fileAnswer Corridor n k corridor) _ .0 h in
-      let rest = orElse-accepts (fileAnswer Demands n k demands) (fileAnswer Record n k recorded) .0 (first .1) in
+      let rest = orElse-accepts (fileAnswer (fileKind Demands demands) n k demands) (fileAnswer Record n k recorded) .0 (first .1) in
       let plan : List ℕ = converted (corridorIn n corridor) (demandsIn n k demands) (recordIn recordWidth n k recorded) in
-      let same : converted (wordsRead Corridor n k corridor a) (wordsRead Demands n k demands b) (wordsRead Record n k recorded c) ≡ plan =
+      let same : converted (wordsRead Corridor n k corridor a) (wordsRead (fileKind Demands demands) n k demands b) (wordsRead Record n k recorded c) ≡ plan =
       λ z.
-      converted (recorded-are Corridor n k corridor a told p (first .0) z) (recorded-are Demands n k demands b told q (rest .0) z)
+      converted (recorded-are Corridor n k corridor a told p (first .0) z) (recorded-are (fileKind Demands demands) n k demands b told q (rest .0) z)
       (recorded-are Record n k recorded c told r (rest .1) z) in
       sym (ap (λ (x : Answer). left x (fileOf (kindNumber Plan) plan) lent) (plan-taken (length lent) fit room))
       ∙ ap (λ (x : List ℕ). fileWritten Plan n k x lent) (sym same)
@@ -119,7 +119,7 @@ sized-same : (t : Bool) (x y : Answer) → (t ≡ true → x ≡ y) → orElse (
 sized-same true x y h = h refl
 sized-same false x y h = refl
 
-pub as-lists : (n k : ℕ) (corridor demands recorded a b c : List ℕ) → length a ≡ listLength Corridor n k → length b ≡ listLength Demands n k → length c ≡ listLength Record n k
+pub as-lists : (n k : ℕ) (corridor demands recorded a b c : List ℕ) → length a ≡ listLength Corridor n k → length b ≡ listLength (fileKind Demands demands) n k → length c ≡ listLength Record n k
     → Turns n k corridor demands recorded a b c
 unfolding checkFiles convertFiles readThenCheck planWritten
 as-lists n k corridor demands recorded a b c p q r =

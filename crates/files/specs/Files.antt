@@ -7,11 +7,11 @@ use lib.Dec.{eqb}
 use lib.ListN.{length}
 use Rattle.tables.specs.declared.Answer.{Answer}
 use Rattle.tables.specs.Answer.{orElse, left, sized}
-use Rattle.lists.specs.Words.{recordWidth, corridorLength, demandsLength, planLength, recordLength}
+use Rattle.lists.specs.Words.{recordWidth, corridorLength, planLength, recordLength}
 use Rattle.convert.specs.Convert.{checkAnswer, converted}
 use Rattle.payload.specs.File.{blocksFor, payloadOf, fileOf}
 use Rattle.block.specs.declared.Kind.the-variants.{Corridor, Demands, Record, Plan}
-use Rattle.block.specs.Kinds.{kindNumber}
+use Rattle.block.specs.Kinds.{kindNumber, listLength, fileKind}
 use Rattle.block.specs.Calls.{toldFits, fileAnswer}
 
 -- ---- the words of each file, told N and K: `recorded` is a record's file
@@ -19,8 +19,12 @@ use Rattle.block.specs.Calls.{toldFits, fileAnswer}
 abbrev pub corridorIn : ℕ → List ℕ → List ℕ
 corridorIn n file = payloadOf (corridorLength n) file
 
+-- demands of kind 2 or of kind 5, as word 0 of their file chooses: how many words they have, and these words
+abbrev pub demandsCount : ℕ → ℕ → List ℕ → ℕ
+demandsCount n k file = listLength (fileKind Demands file) n k
+
 abbrev pub demandsIn : ℕ → ℕ → List ℕ → List ℕ
-demandsIn n k file = payloadOf (demandsLength n k) file
+demandsIn n k file = payloadOf (demandsCount n k file) file
 
 abbrev pub recordIn : ℕ → ℕ → ℕ → List ℕ → List ℕ
 recordIn width n k file = payloadOf (recordLength width n k) file
@@ -30,7 +34,7 @@ recordIn width n k file = payloadOf (recordLength width n k) file
 -- 14 to 18, and 1 for an own N or K that differs: each file is read whole before the next
 unfoldable pub filesAnswer : ℕ → ℕ → List ℕ → List ℕ → List ℕ → Answer
 filesAnswer n k corridor demands recorded =
-    orElse (fileAnswer Corridor n k corridor) (orElse (fileAnswer Demands n k demands) (fileAnswer Record n k recorded))
+    orElse (fileAnswer Corridor n k corridor) (orElse (fileAnswer (fileKind Demands demands) n k demands) (fileAnswer Record n k recorded))
 
 -- then what the checker answers to the words that were read
 unfoldable pub readThenCheck : ℕ → ℕ → List ℕ → List ℕ → List ℕ → Answer

@@ -6,13 +6,13 @@ use lib.ListN.{length}
 use Rattle.tables.specs.declared.Answer.{Answer}
 use Rattle.tables.specs.declared.Answer.the-variants.{Accepted}
 use Rattle.tables.specs.Answer.{orElse}
-use Rattle.lists.specs.Words.{free, roadOf, recordWidth, corridorLength, demandsLength, planLength, recordLength}
+use Rattle.lists.specs.Words.{downstreamWord, roadOf, recordWidth, corridorLength, planLength, recordLength}
 use Rattle.lists.specs.Refusals.{ranges}
 use Rattle.convert.specs.Refusals.{judged}
 use Rattle.convert.specs.Rows.{planRow, Ready}
 use Rattle.payload.specs.File.{blocksFor, payloadWord, payloadPart}
 use Rattle.block.specs.Kinds.{Told}
-use Rattle.files.specs.Files.{corridorIn, demandsIn, recordIn}
+use Rattle.files.specs.Files.{corridorIn, demandsCount, demandsIn, recordIn}
 
 -- a file has the blocks of m payload words
 abbrev pub Holds : ℕ → List ℕ → Type 0
@@ -22,7 +22,7 @@ Holds m file = length file ≡ blocksFor m * 512
 pub record FilesFit (links steps : ℕ) (corridor demands recorded : List ℕ) : Type 0 where
   pub told : Told links steps
   pub corridorHolds : Holds (corridorLength links) corridor
-  pub demandsHold : Holds (demandsLength links steps) demands
+  pub demandsHold : Holds (demandsCount links steps demands) demands
   pub recordHolds : Holds (recordLength recordWidth links steps) recorded
   pub ownLinks : payloadWord corridor 0 ≡ links
   pub ownSteps : payloadWord demands 0 ≡ steps
@@ -42,19 +42,24 @@ wordsAnswer links steps corridor demands recorded =
 abbrev pub demandRowIn : ℕ → List ℕ → ℕ → List ℕ
 demandRowIn links file k = payloadPart (1 + k * ((links + 1) * 2)) ((links + 1) * 2) file
 
+-- the flow that may leave link N in step k, in the words of the demands' file
+abbrev pub downstreamIn : ℕ → ℕ → List ℕ → ℕ → ℕ
+downstreamIn links steps file k = downstreamWord (demandsIn links steps file) links steps k
+
 abbrev pub stateRowIn : ℕ → ℕ → List ℕ → ℕ → List ℕ
 stateRowIn width links file k = payloadPart (k * (suc links * width)) (suc links * width) file
 
 -- the plan's row of step k
-abbrev pub planRowIn : List ℕ → ℕ → List ℕ → List ℕ → ℕ → List ℕ
-planRowIn corridor links demands recorded k = planRow recordWidth corridor links (demandRowIn links demands k) free (stateRowIn recordWidth links recorded k)
+abbrev pub planRowIn : List ℕ → ℕ → ℕ → List ℕ → List ℕ → ℕ → List ℕ
+planRowIn corridor links steps demands recorded k =
+    planRow recordWidth corridor links (demandRowIn links demands k) (downstreamIn links steps demands k) (stateRowIn recordWidth links recorded k)
 
 -- ---- what is asked of the files once the corridor's words are unpacked
 
 -- 1 to 5 are not due, and both files have their blocks
 pub record FilesReady (links steps : ℕ) (corridor demands recorded : List ℕ) : Type 0 where
   pub ready : Ready recordWidth corridor (demandsIn links steps demands) (recordIn recordWidth links steps recorded) links steps
-  pub demandsHold : Holds (demandsLength links steps) demands
+  pub demandsHold : Holds (demandsCount links steps demands) demands
   pub recordHolds : Holds (recordLength recordWidth links steps) recorded
 
 -- and 7 to 13 are not

@@ -4,6 +4,7 @@ use mathlib.Core.Bool.{Bool, true, _||_}
 use mathlib.Core.Path.{_≡_, sym, ap, ap₂, _∙_}
 use mathlib.Core.List.{List}
 use mathlib.Core.Logic.{⊎-elim}
+use native.Mathlib.Nat.{mul-le-mul}
 use native.Mathlib.Numerals.{add-one}
 use native.Mathlib.Omega.{arith}
 use borrow.Author.Tests.{eq-eqb, ne-eqb}
@@ -19,6 +20,10 @@ pub sizes-are : (corridor demands : List ℕ) (links steps : ℕ) (r : Bool) →
     → r ≡ lengthsFit links steps (length corridor) (length demands) → r ≡ sizes corridor demands
 unfolding sizes lengthsFit
 sizes-are corridor demands links steps r n k e = rw (← n, ← k) e
+
+-- the words of all rows are few
+pub rows-few : (links steps : ℕ) → links ≤ 64 → steps ≤ 1440 → steps * ((links + 1) * 2) ≤ 187200
+rows-few links steps h k = let narrow : (links + 1) * 2 ≤ 130 = omega arith in omega (arith, mul-le-mul k narrow)
 
 -- ---- the two lengths of demands: `rows` is how many words the rows have, as the code counts them
 

@@ -2,6 +2,7 @@
 ghost use mathlib.Core.Path.{_≡_};
 ghost use mathlib.Core.Bool.{cond};
 ghost use Prim.Native.Nat.{_*_, _≤_};
+ghost use lib.Dec.{eqb};
 ghost use Rattle.block.specs.declared.Kind.the-variants.{Demands, DemandsDownstream};
 ghost use Rattle.block.specs.Kinds.{Told, kindNumber, listLength, ownAgrees, kindWord, fileKind, listKind};
 use crate::Kind;
@@ -68,6 +69,13 @@ fn kind_word(file: &[u8]) -> u32
     0
 }
 
+// Whether a file of demands has the flow that may leave link N.
+pub fn has_downstream(file: &[u8]) -> bool
+    ensures { λ r. ⌜ r ≡ eqb (kindWord (now (file .entry))) (kindNumber DemandsDownstream) ⌝ }
+{
+    kind_word(file) == number_of(Kind::DemandsDownstream)
+}
+
 // The kind of demands, by whether they have the flow that may leave link N.
 fn demands_kind(downstream: bool) -> Kind
     ensures { λ r. ⌜ r ≡ cond downstream DemandsDownstream Demands ⌝ }
@@ -84,7 +92,7 @@ pub fn file_kind(kind: Kind, file: &[u8]) -> Kind
 {
     match kind {
         Kind::Corridor => Kind::Corridor,
-        Kind::Demands => demands_kind(kind_word(file) == number_of(Kind::DemandsDownstream)),
+        Kind::Demands => demands_kind(has_downstream(file)),
         Kind::DemandsDownstream => Kind::DemandsDownstream,
         Kind::Record => Kind::Record,
         Kind::Plan => Kind::Plan,

@@ -39,7 +39,8 @@ fn files_answer(n: u32, k: u32, corridor: &[u8], demands: &[u8], recorded: &[u8]
     if is_refused(first) {
         return first;
     }
-    let second = calls::file_answer(Kind::Demands, n, k, demands);
+    let kind = kinds::file_kind(Kind::Demands, demands);
+    let second = calls::file_answer(kind, n, k, demands);
     if is_refused(second) {
         return second;
     }

@@ -26,7 +26,7 @@ fn put_step(
 )
     requires { ⌜ FilesKept links steps (now corridor) (now demands) (now recorded) ⌝ }
     requires { ⌜ (k < steps) × Holds (planLength links steps) (now plan) ⌝ }
-    ensures { λ _. ⌜ (now (plan .exit) ≡ putPayload (now (plan .entry)) (k * ((links + 1) * 2)) (planRowIn (now (corridor .entry)) links (now (demands .entry)) (now (recorded .entry)) k)) × Words (planRowIn (now (corridor .entry)) links (now (demands .entry)) (now (recorded .entry)) k) ⌝ }
+    ensures { λ _. ⌜ (now (plan .exit) ≡ putPayload (now (plan .entry)) (k * ((links + 1) * 2)) (planRowIn (now (corridor .entry)) links steps (now (demands .entry)) (now (recorded .entry)) k)) × Words (planRowIn (now (corridor .entry)) links steps (now (demands .entry)) (now (recorded .entry)) k) ⌝ }
 {
     let width = words::RECORD_WIDTH;
     let narrow = (links + 1) * 2;
@@ -38,7 +38,7 @@ fn put_step(
     unpacked::step_rows(demands, recorded, links, steps, k, demand, row);
     let mut plan_room = [0u32; 130];
     let out = &mut plan_room[..narrow];
-    let downstream = words::downstream();
+    let downstream = unpacked::downstream(demands, links, steps, k);
     convert::inner::plans::plan_row(corridor, links, demand, downstream, row, width, out);
     place::put(plan, scans::row_at(k, narrow, steps), out);
 }

@@ -4,11 +4,11 @@ ghost use Prim.Native.Nat.{suc, _≤_, _<_};
 ghost use Rattle.tables.specs.declared.Answer.the-variants.{Accepted};
 ghost use Rattle.tables.specs.First.{firstNode};
 ghost use Rattle.lists.specs.declared.inner.scans.NodeTest.the-variants.{Demand};
-ghost use Rattle.lists.specs.Words.{recordWidth, demandsLength, recordLength};
+ghost use Rattle.lists.specs.Words.{recordWidth, recordLength};
 ghost use Rattle.lists.specs.Fits.{CorridorFits};
 ghost use Rattle.lists.specs.Scans.{nodeFaultAt};
 ghost use Rattle.convert.specs.Rows.{fixedRowRefusal, fixedRefusal, stepRefusal, stepsRefusal, stateCostAt};
-ghost use Rattle.files.specs.Files.{demandsIn, recordIn};
+ghost use Rattle.files.specs.Files.{demandsCount, demandsIn, recordIn};
 ghost use Rattle.files.specs.Fits.{Holds, FilesReady};
 use crate::inner::unpacked;
 use lists::inner::scans;
@@ -18,14 +18,22 @@ use tables::Answer;
 // The first node of step k with refusal 5.
 pub fn demand_at(corridor: &[u32], links: usize, steps: usize, demands: &[u8], k: usize) -> Answer
     requires { ⌜ CorridorFits (now corridor) links ⌝ }
-    requires { ⌜ (steps ≤ 1440) × (k < steps) × Holds (demandsLength links steps) (now demands) ⌝ }
-    ensures { λ r. ⌜ r ≡ firstNode (suc links) k (nodeFaultAt Demand (now (corridor .entry)) links 1 (demandsIn links steps (now (demands .entry))) k) ⌝ }
+    requires { ⌜ (steps ≤ 1440) × (k < steps) × Holds (demandsCount links steps (now demands)) (now demands) ⌝ }
+    ensures { λ r. ⌜ r ≡ firstNode (suc links) k (nodeFaultAt Demand (now (corridor .entry)) links steps 1 (demandsIn links steps (now (demands .entry))) k) ⌝ }
 {
     let narrow = (links + 1) * 2;
     let mut room = [0u32; 130];
     let row = &mut room[..narrow];
     unpacked::demand_row(demands, links, steps, k, row);
-    scans::scan_nodes(scans::NodeTest::Demand, k, corridor, links, row)
+    let downstream = unpacked::downstream(demands, links, steps, k);
+    scans::scan_nodes(
+        scans::NodeTest::Demand,
+        k,
+        corridor,
+        links,
+        row,
+        downstream,
+    )
 }
 
 // The first node of state k with refusal 7.
@@ -73,7 +81,7 @@ pub fn step_at(
         corridor,
         links,
         demand,
-        words::downstream(),
+        unpacked::downstream(demands, links, steps, k),
         row,
         after,
         width,

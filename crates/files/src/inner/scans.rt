@@ -5,13 +5,13 @@ ghost use Prim.Native.Nat.{_≤_};
 ghost use Rattle.tables.specs.declared.Answer.the-variants.{Accepted};
 ghost use Rattle.tables.specs.Answer.{refusal};
 ghost use Rattle.road.specs.Run.{cost};
-ghost use Rattle.lists.specs.Words.{roadOf, recordWidth, traceOf, demandsLength, recordLength};
+ghost use Rattle.lists.specs.Words.{roadOf, recordWidth, traceOf, recordLength};
 ghost use Rattle.lists.specs.Fits.{CorridorFits, DemandsFit};
 ghost use Rattle.lists.specs.Refusals.{ranges};
 ghost use Rattle.lists.specs.Scans.{demandsRefusal};
 ghost use Rattle.convert.specs.Refusals.{costFault, judged};
 ghost use Rattle.convert.specs.Rows.{bareRoad, fixedRefusal, stepsRefusal};
-ghost use Rattle.files.specs.Files.{demandsIn, recordIn};
+ghost use Rattle.files.specs.Files.{demandsCount, demandsIn, recordIn};
 ghost use Rattle.files.specs.Fits.{Holds, FilesReady};
 use crate::inner::rows;
 use faults::inner::records;
@@ -25,7 +25,7 @@ use tables::refusal;
 // The first step and node with refusal 5.
 fn scan_demands(corridor: &[u32], links: usize, steps: usize, demands: &[u8]) -> Answer
     requires { ⌜ CorridorFits (now corridor) links ⌝ }
-    requires { ⌜ (steps ≤ 1440) × Holds (demandsLength links steps) (now demands) ⌝ }
+    requires { ⌜ (steps ≤ 1440) × Holds (demandsCount links steps (now demands)) (now demands) ⌝ }
     ensures { λ r. ⌜ r ≡ demandsRefusal (now (corridor .entry)) links steps (demandsIn links steps (now (demands .entry))) ⌝ }
 {
     let mut k: usize = 0;
@@ -43,7 +43,7 @@ fn scan_demands(corridor: &[u32], links: usize, steps: usize, demands: &[u8]) ->
 pub fn ranges(corridor: &[u32], links: usize, steps: usize, demands: &[u8]) -> Answer
     requires { ⌜ CorridorFits (now corridor) links ⌝ }
     requires { ⌜ DemandsFit (demandsIn links steps (now demands)) links steps ⌝ }
-    requires { ⌜ Holds (demandsLength links steps) (now demands) ⌝ }
+    requires { ⌜ Holds (demandsCount links steps (now demands)) (now demands) ⌝ }
     ensures { λ r. ⌜ r ≡ ranges (roadOf (now (corridor .entry)) (demandsIn links steps (now (demands .entry)))) ⌝ }
 {
     let answer = scans::scan_corridor(corridor, links);

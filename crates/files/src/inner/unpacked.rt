@@ -2,20 +2,35 @@
 ghost use mathlib.Core.Path.{_≡_};
 ghost use Prim.Native.Nat.{suc, _+_, _*_, _≤_, _<_};
 ghost use lib.ListN.{length};
-ghost use Rattle.lists.specs.Words.{recordWidth, demandsLength, recordLength};
-ghost use Rattle.files.specs.Fits.{Holds, demandRowIn, stateRowIn};
+ghost use Rattle.lists.specs.Words.{recordWidth, recordLength};
+ghost use Rattle.files.specs.Files.{demandsCount};
+ghost use Rattle.files.specs.Fits.{Holds, demandRowIn, downstreamIn, stateRowIn};
+use block::inner::kinds;
 use lists::inner::scans;
 use lists::inner::words;
 use payload::inner::place;
+use road::Units;
 
 // The demands of step k.
 pub fn demand_row(demands: &[u8], links: usize, steps: usize, k: usize, row: &mut [u32])
-    requires { ⌜ (links ≤ 64) × (steps ≤ 1440) × (k < steps) × Holds (demandsLength links steps) (now demands) ⌝ }
+    requires { ⌜ (links ≤ 64) × (steps ≤ 1440) × (k < steps) × Holds (demandsCount links steps (now demands)) (now demands) ⌝ }
     requires { ⌜ length (now row) ≡ (links + 1) * 2 ⌝ }
     ensures { λ _. ⌜ now (row .exit) ≡ demandRowIn links (now (demands .entry)) k ⌝ }
 {
     let at = scans::row_at(k, (links + 1) * 2, steps);
     place::unpack(demands, 1 + at, row);
+}
+
+// The flow that may leave link N in step k: 65,536 where the demands' kind has no word for it.
+pub fn downstream(demands: &[u8], links: usize, steps: usize, k: usize) -> Units
+    requires { ⌜ (links ≤ 64) × (steps ≤ 1440) × (k < steps) × Holds (demandsCount links steps (now demands)) (now demands) ⌝ }
+    ensures { λ r. ⌜ r .0 ≡ downstreamIn links steps (now (demands .entry)) k ⌝ }
+{
+    if kinds::has_downstream(demands) {
+        let rows = scans::table_length(steps, (links + 1) * 2);
+        return Units(place::word_of(demands, 1 + rows + k));
+    }
+    Units(65536)
 }
 
 // State k of a record, and the flows of step k.
@@ -40,7 +55,7 @@ pub fn step_rows(
     row: &mut [u32],
 )
     requires { ⌜ (links ≤ 64) × (steps ≤ 1440) × (k < steps) ⌝ }
-    requires { ⌜ Holds (demandsLength links steps) (now demands) × Holds (recordLength recordWidth links steps) (now recorded) ⌝ }
+    requires { ⌜ Holds (demandsCount links steps (now demands)) (now demands) × Holds (recordLength recordWidth links steps) (now recorded) ⌝ }
     requires { ⌜ (length (now demand) ≡ (links + 1) * 2) × (length (now row) ≡ suc links * recordWidth) ⌝ }
     ensures { λ _. ⌜ (now (demand .exit) ≡ demandRowIn links (now (demands .entry)) k) × (now (row .exit) ≡ stateRowIn recordWidth links (now (recorded .entry)) k) ⌝ }
 {

@@ -10,7 +10,7 @@ returns c = rw (c .enum-told .given .1)
 
 returns-2 : tie.Need-returns-2
 unfolding fileKind
-returns-2 c = rw (c .before .before .before .enum-told2 .given .1) (cc)
+returns-2 c = rw (c .before .before .enum-told2 .given .1) (cc)
 
 returns-3 : tie.Need-returns-3
 unfolding fileKind
@@ -28,5 +28,5 @@ pub file-kind-spec : {M : Type 1} → statement M
 file-kind-spec =
     tie.close
     (tie.spec
-    (λ c. search needs) (λ c. search needs) (λ c κs. search needs) (λ c κs. search needs) (λ c κs. search needs)
+    (λ c. search needs) (λ c. search needs) (λ c κs. search needs) (λ c κs. search needs)
     (λ c. search needs) (λ c. search needs) (λ c. search needs) returns returns-2 returns-3 returns-4 returns-5)

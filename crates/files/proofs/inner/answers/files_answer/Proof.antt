@@ -14,6 +14,7 @@ files-answer-spec =
     (λ c. search (files-first, told-refused))
     (λ c κs. search needs)
     (λ c κs. search needs)
+    (λ c κs. search needs)
     (λ c. search (files-second, told-refused, told-accepted))
     (λ c κs. search needs)
     (λ c. search (files-third, told-accepted)))

@@ -36,7 +36,7 @@ put-requires c κs = put-fits _ _ _ _ _ _ _ _ _ (c .before .before .before .befo
 returns : tie.Need-returns
 returns c =
     let rows = c .before .before .before .before .before .before .before .before .before .before .before .before .before .before .before .before .before .before .before .before .before .step-rows .ensures in
-    put-told _ _ _ _ _ _ _ _ _ _ _ (c .before .before .before .before .before .before .before .before .before .before .before .plan-row .ensures) (c .before .before .before .before .before .before .before .before .before .before .before .before .before .before .before .downstream .ensures) (rows .0) (rows .1) (c .before .before .before .before .before .row-at .ensures .0) (c .before .before .before .put .ensures)
+    put-told _ _ _ _ _ _ _ _ _ _ _ _ (c .before .before .before .before .before .before .before .before .before .before .before .plan-row .ensures) (c .before .before .before .before .before .before .before .before .before .before .before .before .before .before .before .downstream .ensures) (rows .0) (rows .1) (c .before .before .before .before .before .row-at .ensures .0) (c .before .before .before .put .ensures)
 
 pub put-step-spec : {M : Type 1} → statement M
 put-step-spec =

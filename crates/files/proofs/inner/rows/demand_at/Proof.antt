@@ -9,11 +9,14 @@ use Rattle.files.proofs.inner.rows.demand_at.Tie as tie
 
 scan-nodes-requires : tie.Need-scan-nodes-requires
 scan-nodes-requires c κs =
-    let k = c .before .before .before .before .before .before .before .before in
-    (k .pre .0, (omega (arith, k .pre .1), row-for _ _ _ (demand-length _ _ _ _ (c .before .before .before .demand-row .ensures))))
+    let k = c .before .before .before .before .before .before .before .before .before in
+    (k .pre .0, (omega (arith, k .pre .1), row-for _ _ _ (demand-length _ _ _ _ (c .before .before .before .before .demand-row .ensures))))
 
 returns : tie.Need-returns
-returns c = demand-found _ _ _ _ _ (c .before .before .before .before .before .demand-row .ensures) (c .before .before .before .before .before .before .before .before .before .before .pre .1 .1) _ _ _ (c .before .scan-nodes .ensures)
+returns c =
+    let k = c .before .before .before .before .before .before .before .before .before .before .before in
+    demand-found _ _ _ _ _ (c .before .before .before .before .before .before .demand-row .ensures) (k .pre .1 .1) _ _ _ _ (c .before .scan-nodes .ensures)
+    (c .before .before .before .downstream .ensures)
 
 pub demand-at-spec : {M : Type 1} → statement M
 demand-at-spec =
@@ -24,5 +27,6 @@ demand-at-spec =
     (λ c. search needs)
     (λ c. simp length-take (omega arith))
     (λ c κs. (search needs, simp length-take (omega arith)))
+    (λ c κs. search needs)
     scan-nodes-requires
     returns)

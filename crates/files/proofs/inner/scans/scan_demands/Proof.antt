@@ -11,7 +11,7 @@ use Rattle.files.proofs.inner.scans.scan_demands.Statement.{statement}
 use Rattle.files.proofs.inner.scans.scan_demands.Tie as tie
 
 abbrev Inv-loop : tie.InvT-loop
-Inv-loop corridor links steps demands k₀ k = Passed k steps (λ j. firstNode (suc links) j (nodeFaultAt Demand corridor links 1 (demandsIn links steps demands) j))
+Inv-loop corridor links steps demands k₀ k = Passed k steps (λ j. firstNode (suc links) j (nodeFaultAt Demand corridor links steps 1 (demandsIn links steps demands) j))
 
 abbrev μ-loop : tie.MeasureT-loop
 μ-loop corridor links steps demands k₀ k = steps - k

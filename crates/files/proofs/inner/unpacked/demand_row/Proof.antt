@@ -1,7 +1,7 @@
 -- The row starts where the demands' rows before it end, and is as long as the list that is lent.
 use native.Mathlib.Omega.{arith}
 use borrow.Author.Needs.{needs}
-use Rattle.files.proofs.Rows.{unpacked}
+use Rattle.files.proofs.Rows.{unpacked, demand-holds}
 use Rattle.files.proofs.inner.unpacked.demand_row.Statement.{statement}
 use Rattle.files.proofs.inner.unpacked.demand_row.Tie as tie
 
@@ -14,4 +14,4 @@ returns c =
 pub demand-row-spec : {M : Type 1} → statement M
 demand-row-spec =
     tie.close
-    (tie.spec (λ c. search needs) (λ c. search needs) (λ c κs. search needs) (λ c. search needs) (λ c κs. search needs) (λ c. search needs) returns)
+    (tie.spec (λ c. search needs) (λ c. search needs) (λ c κs. search needs) (λ c. search needs) (λ c κs. let k = c .before .before .before .before in demand-holds _ _ _ _ _ (c .before .row-at .ensures .1) (k .pre .0 .3) (k .pre .1)) (λ c. search needs) returns)

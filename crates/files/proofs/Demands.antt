@@ -1,0 +1,71 @@
+-- The demands' file: how many words it has in either kind, and the flow that may leave link N, read where it stands.
+use Prim.Native.Nat.{ℕ, suc, _+_, _*_, _≤_, _<_}
+use mathlib.Core.Bool.{Bool, true, false, cond}
+use mathlib.Core.List.{List}
+use mathlib.Core.Logic.{inl, inr}
+use mathlib.Core.Path.{_≡_, refl, sym, ap, subst, _∙_}
+use native.Mathlib.Numerals.{add-one}
+use native.Mathlib.Omega.{arith}
+use lib.Dec.{eqb}
+use lib.ListN.{length, getD}
+use Rattle.tables.proofs.Tabulate.{tabulate-at, tabulate-past}
+use Rattle.lists.specs.Words.{demandsLength, downstreamLength, free}
+use Rattle.lists.proofs.Limits.{DemandsSized}
+use Rattle.payload.specs.File.{blocksFor, payloadWord}
+use Rattle.block.specs.declared.Kind.{Kind}
+use Rattle.block.specs.declared.Kind.the-variants.{Demands, DemandsDownstream}
+use Rattle.block.specs.Kinds.{kindNumber, listLength, ownAgrees, kindWord, fileKind}
+use Rattle.files.specs.Files.{demandsCount, demandsIn}
+use Rattle.files.specs.Fits.{Holds, downstreamIn}
+
+-- what holds of both kinds holds of the kind that a file chooses
+chosen : (P : Kind → Type 0) (file : List ℕ) → P DemandsDownstream → P Demands → P (fileKind Demands file)
+unfolding fileKind
+chosen P file long short = by (eqb (kindWord file) (kindNumber DemandsDownstream))
+  where
+    by : (t : Bool) → P (cond t DemandsDownstream Demands)
+    by true = long
+    by false = short
+
+pub count-sized : (links steps : ℕ) (file : List ℕ) → DemandsSized links steps (demandsCount links steps file)
+unfolding listLength
+count-sized links steps file = chosen (λ kind. DemandsSized links steps (listLength kind links steps)) file (inr refl) (inl refl)
+
+pub count-low : (links steps : ℕ) (file : List ℕ) → demandsLength links steps ≤ demandsCount links steps file
+unfolding listLength
+count-low links steps file = chosen (λ kind. demandsLength links steps ≤ listLength kind links steps) file (omega arith) (omega arith)
+
+pub demands-own : (n k : ℕ) (file : List ℕ) → ownAgrees (fileKind Demands file) n k (payloadWord file 0) ≡ eqb (payloadWord file 0) k
+unfolding ownAgrees
+demands-own n k file = chosen (λ kind. ownAgrees kind n k (payloadWord file 0) ≡ eqb (payloadWord file 0) k) file refl refl
+
+-- ---- the flow that may leave link N: `has` is whether the file has it, and `rows` how many words its rows have, as the code has them
+
+module _ (links steps k : ℕ) (file : List ℕ) (has : Bool) (e : has ≡ eqb (kindWord file) (kindNumber DemandsDownstream)) where
+  count-is : demandsCount links steps file ≡ listLength (cond has DemandsDownstream Demands) links steps
+  unfolding fileKind
+  count-is = ap (λ (t : Bool). listLength (cond t DemandsDownstream Demands) links steps) (sym e)
+
+  module _ (long : has ≡ true) (h : k < steps) (rows : ℕ) (r : rows ≡ steps * ((links + 1) * 2)) where
+    count-long : demandsCount links steps file ≡ downstreamLength links steps
+    unfolding listLength
+    count-long = count-is ∙ ap (λ (t : Bool). listLength (cond t DemandsDownstream Demands) links steps) long
+
+    at-is : 1 + rows ≡ demandsLength links steps
+    at-is = ap (λ (n : ℕ). 1 + n) (r ∙ ap (λ (n : ℕ). steps * (n * 2)) (add-one links))
+
+    pub downstream-holds : Holds (demandsCount links steps file) file → blocksFor (1 + rows + k + 1) * 512 ≤ length file
+    downstream-holds holds = omega (arith, count-long, at-is)
+
+    pub downstream-read : (x : ℕ) → x ≡ payloadWord file (1 + rows + k) → x ≡ downstreamIn links steps file k
+    downstream-read x word =
+        word
+        ∙ sym (tabulate-at (demandsCount links steps file) (payloadWord file) (1 + rows + k) free (omega (arith, count-long, at-is)))
+        ∙ ap (λ (n : ℕ). getD (demandsIn links steps file) (n + k) free) at-is
+
+  pub downstream-none : has ≡ false → 65536 ≡ downstreamIn links steps file k
+  unfolding listLength
+  downstream-none short =
+      let count : demandsCount links steps file ≡ demandsLength links steps =
+      count-is ∙ ap (λ (t : Bool). listLength (cond t DemandsDownstream Demands) links steps) short in
+      sym (tabulate-past (demandsCount links steps file) (payloadWord file) (demandsLength links steps + k) free (omega arith))

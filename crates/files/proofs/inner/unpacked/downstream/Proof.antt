@@ -1,0 +1,21 @@
+-- Kind 5 has the word after its rows, and kind 2 has none.
+use native.Mathlib.Omega.{arith}
+use borrow.Author.Needs.{needs}
+use Rattle.lists.proofs.Sizes.{rows-few}
+use Rattle.files.proofs.Demands.{downstream-holds, downstream-read, downstream-none}
+use Rattle.files.proofs.inner.unpacked.downstream.Statement.{statement}
+use Rattle.files.proofs.inner.unpacked.downstream.Tie as tie
+
+pub downstream-spec : {M : Type 1} → statement M
+downstream-spec =
+    tie.close
+    (tie.spec
+    (λ c κs. search needs)
+    (λ c. search needs)
+    (λ c. search needs)
+    (λ c κs. search needs)
+    (λ c. search needs)
+    (λ c. let k = c .before .before .before .before in omega (arith, c .table-length .ensures, rows-few _ _ (k .pre .0) (k .pre .1), k .pre .2))
+    (λ c κs. search downstream-holds)
+    (λ c. search downstream-read)
+    (λ c. search downstream-none))
