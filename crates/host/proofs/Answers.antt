@@ -26,7 +26,7 @@ use Rattle.payload.specs.File.{blocksFor}
 use Rattle.payload.proofs.Bounds.{Bounded}
 use Rattle.block.specs.declared.Kind.{Kind}
 use Rattle.block.specs.declared.Kind.the-variants.{Corridor, Demands, Record}
-use Rattle.block.specs.Kinds.{listLength}
+use Rattle.block.specs.Kinds.{listLength, fileKind}
 use Rattle.block.specs.Calls.{toldFits, fileAnswer, readAnswer, writeAnswer}
 use Rattle.block.proofs.Bounds.{file-bounded, read-bounded, write-bounded}
 use Rattle.block.proofs.Calls.{told-is, length-high}
@@ -58,11 +58,14 @@ unfolding startFault
 start-small node =
     small-unless (leb (node .start .vehicles) (node .link .jam) && leb (node .start .queue) (node .ramp .queueLimit)) 4 (omega arith)
 
-demand-small : (links i arrivals split : ℕ) → demandFault links i arrivals split ≤ 255
+demand-small : (links i arrivals split downstream : ℕ) → demandFault links i arrivals split downstream ≤ 255
 unfolding demandFault
-demand-small links i arrivals split =
+demand-small links i arrivals split downstream =
     small-unless
-    (leb arrivals 65536 && (leb split 65536 && (implies (eqb i 0) (eqb split 0) && implies (eqb i links) (eqb split 0 && eqb arrivals 0))))
+    (leb arrivals 65536
+    && (leb split 65536
+    && (implies (eqb i 0) (eqb split 0)
+    && implies (eqb i links) (eqb split 0 && (eqb arrivals 0 && leb downstream 65536)))))
     5 (omega arith)
 
 plan-small : (link : Link) (ramp : Ramp) (rate limit : ℕ) → planFault link ramp rate limit ≤ 255
@@ -114,7 +117,7 @@ module _ (road : Road) (few : road .links ≤ 64) (short : road .steps ≤ 1440)
       small-orElse (linkRefusal road) _ (small-node (nodes road) 0 _ (omega arith) (omega arith) (λ i. link-small i (road .node i .link)))
       (small-orElse (rampRefusal road) _ (small-node (nodes road) 0 _ (omega arith) (omega arith) (λ i. ramp-small (eqb i (road .links)) (road .node i .identifier) (road .node i .ramp) (fresh (λ j. road .node j .identifier) i)))
       (small-orElse (startRefusal road) _ (small-node (nodes road) 0 _ (omega arith) (omega arith) (λ i. start-small (road .node i)))
-      (small-place (road .steps) (nodes road) _ (omega arith) (omega arith) (λ k i. demand-small (road .links) i (road .arrivals k i) (road .split k i)))))
+      (small-place (road .steps) (nodes road) _ (omega arith) (omega arith) (λ k i. demand-small (road .links) i (road .arrivals k i) (road .split k i) (road .downstream k)))))
 
   pub bounds-small : (plan : Plan) → Small (bounds road plan)
   unfolding bounds
@@ -212,7 +215,7 @@ module _ (n k : ℕ) (corridor demands recorded : List ℕ) where
   then-check-small t =
       small-orElse (filesAnswer n k corridor demands recorded) _
       (small-orElse (fileAnswer Corridor n k corridor) _ (file-small Corridor n k corridor t)
-      (small-orElse (fileAnswer Demands n k demands) _ (file-small Demands n k demands t) (file-small Record n k recorded t)))
+      (small-orElse (fileAnswer (fileKind Demands demands) n k demands) _ (file-small (fileKind Demands demands) n k demands t) (file-small Record n k recorded t)))
       (check-small (corridorIn n corridor) (demandsIn n k demands) (recordIn recordWidth n k recorded))
 
   pub check-files-small : Small (checkFiles n k corridor demands recorded)
