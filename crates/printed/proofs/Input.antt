@@ -16,21 +16,23 @@ use Rattle.tables.proofs.Answers.{orElse-accepts, refusal-unless}
 use Rattle.tables.proofs.Tabulate.{tabulate-at}
 use Rattle.road.specs.Corridor.{Road}
 use Rattle.road.specs.Run.{cost}
-use Rattle.lists.specs.Words.{linksOf, stepsOf, roadOf, recordWidth, traceOf, corridorLength, demandsLength, traceLength, recordLength}
+use Rattle.lists.specs.Words.{linksOf, stepsOf, roadOf, recordWidth, traceOf, corridorLength, traceLength, recordLength}
 use Rattle.faults.specs.Lists.{within}
 use Rattle.lists.proofs.Limits.{sized-iff}
 use Rattle.faults.proofs.Tests.{within-holds}
 use Rattle.convert.proofs.Facts.{judged-iff}
 use Rattle.payload.specs.File.{blocksFor, wordIn, payloadWord}
 use Rattle.payload.specs.Reading.{tested}
-use Rattle.block.specs.Kinds.{Told}
+use Rattle.block.specs.declared.Kind.{Kind}
+use Rattle.block.specs.declared.Kind.the-variants.{Demands}
+use Rattle.block.specs.Kinds.{Told, listLength, fileKind}
 use Rattle.block.specs.Calls.{toldFits}
 use Rattle.files.specs.Files.{corridorIn, demandsIn, recordIn, readThenCheck}
 use Rattle.files.specs.Fits.{FilesFit, Accepts}
 use Rattle.files.proofs.Answers.{accepts}
 use Rattle.files.proofs.Contents.{own-links, own-steps}
 use Rattle.printed.specs.declared.inner.input.Layout.{Layout}
-use Rattle.printed.specs.Input.{linksIn, stepsIn, demandsBlock, recordBlock, endBlock, corridorFile, demandsFile, recordFile, inputAnswer}
+use Rattle.printed.specs.Input.{linksIn, stepsIn, demandsBlock, demandsKind, recordBlock, endBlock, corridorFile, demandsFile, recordFile, inputAnswer}
 use Rattle.printed.specs.Text.{refusedLine, textFor, printed}
 use Rattle.printed.specs.Fits.{filesLeft, stepsLeft, Laid, statedCost}
 
@@ -91,6 +93,10 @@ module _ (input : List ℕ) (n : ℕ) (is : n ≡ linksIn input) (block : ℕ) (
   pub steps-short : (a : Answer) → a ≡ Refused 14 0 0 → length input < block * 512 + 12 → a ≡ stepsLeft input
   steps-short a e h = e ∙ test-fails 13 _ _ (subst (λ (x : ℕ). leb (x * 512 + 12) (length input) ≡ false) start (lt-leb (block * 512 + 12) (length input) h))
 
+  pub kind-is : (kind : Kind) → kind ≡ fileKind Demands (drop (block * 512) input) → kind ≡ demandsKind input
+  unfolding demandsKind
+  kind-is kind e = e ∙ ap (λ (x : ℕ). fileKind Demands (drop (x * 512) input)) start
+
   pub steps-are : (k : ℕ) → k ≡ wordIn input block 2 → k ≡ stepsIn input
   unfolding stepsIn
   steps-are k word = word ∙ ap (λ (x : ℕ). wordIn input x 2) start
@@ -115,18 +121,26 @@ module _ (input : List ℕ) (n : ℕ) (is : n ≡ linksIn input) (block : ℕ) (
 rest-is : (at : ℕ) (input : List ℕ) → take (length input - at) (drop at input) ≡ drop at input
 rest-is at input = take-all (length input - at) (drop at input) (simp length-drop (omega arith))
 
-module _ (input : List ℕ) (n k : ℕ) (links : n ≡ linksIn input) (steps : k ≡ stepsIn input) (at : Layout) (laid : Laid n k at) where
+-- so a file that starts there tells its kind
+pub rest-kind : (at : ℕ) (input : List ℕ) (kind : Kind) → kind ≡ fileKind Demands (take (length input - at) (drop at input)) → kind ≡ fileKind Demands (drop at input)
+rest-kind at input kind e = e ∙ ap (fileKind Demands) (rest-is at input)
+
+module _ (input : List ℕ) (n k : ℕ) (links : n ≡ linksIn input) (steps : k ≡ stepsIn input) (kind : Kind) (chosen : kind ≡ demandsKind input) (at : Layout) (laid : Laid kind n k at) where
   demands-at : at .demands ≡ demandsBlock input * 512
   unfolding demandsBlock
   demands-at = laid .demands ∙ ap (λ (x : ℕ). blocksFor (corridorLength x) * 512) links
 
   record-at : at .recorded ≡ recordBlock input * 512
   unfolding recordBlock demandsBlock
-  record-at = laid .recorded ∙ ap₂ (λ (x y : ℕ). (blocksFor (corridorLength x) + blocksFor (demandsLength x y)) * 512) links steps
+  record-at = laid .recorded ∙ (λ z. (blocksFor (corridorLength (links z)) + blocksFor (listLength (chosen z) (links z) (steps z))) * 512)
 
   end-at : at .end ≡ endBlock input * 512
   unfolding endBlock recordBlock demandsBlock
-  end-at = laid .end ∙ ap₂ (λ (x y : ℕ). (blocksFor (corridorLength x) + blocksFor (demandsLength x y) + blocksFor (recordLength recordWidth x y)) * 512) links steps
+  end-at =
+      laid .end
+      ∙ (λ z.
+      (blocksFor (corridorLength (links z)) + blocksFor (listLength (chosen z) (links z) (steps z)) + blocksFor (recordLength recordWidth (links z) (steps z)))
+      * 512)
 
   -- the files as the code lends them are the input's, whatever is asked of them
   parts-are {ℓ} : {X : Type ℓ} (f : ℕ → ℕ → List ℕ → List ℕ → List ℕ → X)
@@ -203,27 +217,28 @@ module _ (input : List ℕ) (kept : Kept input) (n : ℕ) (links : n ≡ linksIn
       pub kept-steps : Told n k
       kept-steps = subst₂ Told (sym links) (sym steps) (kept .told)
 
-      pub kept-laid : (at : Layout) → Laid n k at → Laid (linksIn input) (stepsIn input) at
-      kept-laid at laid = subst₂ (λ (x y : ℕ). Laid x y at) links steps laid
+      pub kept-laid : (kind : Kind) → kind ≡ fileKind Demands (drop (block * 512) input) → (at : Layout) → Laid kind n k at
+          → Laid (demandsKind input) (linksIn input) (stepsIn input) at
+      kept-laid kind e at laid = coe 0 1 (z. Laid (kind-is input n links block b kind e z) (links z) (steps z) at) laid
 
 -- ---- its files, as the code lends them: what holds of the one holds of the other
 
-module _ (input : List ℕ) (kept : Kept input) (at : Layout) (laid : Laid (linksIn input) (stepsIn input) at) where
+module _ (input : List ℕ) (kept : Kept input) (at : Layout) (laid : Laid (demandsKind input) (linksIn input) (stepsIn input) at) where
   pub in-order : (at .demands ≤ at .recorded) × (at .recorded ≤ length input)
   unfolding endBlock recordBlock demandsBlock
   in-order = (omega (arith, laid .demands, laid .recorded), omega (arith, laid .recorded, kept .whole))
 
-  laid-again : Laid (at .links) (at .steps) at
-  laid-again = subst₂ (λ (n k : ℕ). Laid n k at) (sym (laid .links)) (sym (laid .steps)) laid
+  laid-again : Laid (demandsKind input) (at .links) (at .steps) at
+  laid-again = subst₂ (λ (n k : ℕ). Laid (demandsKind input) n k at) (sym (laid .links)) (sym (laid .steps)) laid
 
   module _ (P : ℕ → ℕ → List ℕ → List ℕ → List ℕ → Type 0) where
     pub lent : P (linksIn input) (stepsIn input) (corridorFile input) (demandsFile input) (recordFile input)
         → P (at .links) (at .steps) (take (at .demands) input) (take (at .recorded - at .demands) (drop (at .demands) input)) (take (length input - at .recorded) (drop (at .recorded) input))
-    lent h = coe 1 0 (z. parts-are input (at .links) (at .steps) (laid .links) (laid .steps) at laid-again P z) h
+    lent h = coe 1 0 (z. parts-are input (at .links) (at .steps) (laid .links) (laid .steps) (demandsKind input) refl at laid-again P z) h
 
     pub lent-back : P (at .links) (at .steps) (take (at .demands) input) (take (at .recorded - at .demands) (drop (at .demands) input)) (take (length input - at .recorded) (drop (at .recorded) input))
         → P (linksIn input) (stepsIn input) (corridorFile input) (demandsFile input) (recordFile input)
-    lent-back h = coe 0 1 (z. parts-are input (at .links) (at .steps) (laid .links) (laid .steps) at laid-again P z) h
+    lent-back h = coe 0 1 (z. parts-are input (at .links) (at .steps) (laid .links) (laid .steps) (demandsKind input) refl at laid-again P z) h
 
 -- ---- the cost that an accepted record states
 

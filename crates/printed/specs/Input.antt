@@ -1,14 +1,18 @@
--- The program's input: a corridor's, the demands' and a record's file, one after another. N and K are taken from the files themselves.
+-- The program's input: a corridor's, the demands' and a record's file, one after another. N, K and the demands' kind are taken
+-- from the files themselves.
 use Prim.Native.Nat.{ℕ, _+_, _-_, _*_}
 use mathlib.Core.List.{List}
 use lib.Dec.{leb, eqb}
 use lib.ListN.{length, take, drop}
 use Rattle.tables.specs.declared.Answer.{Answer}
 use Rattle.tables.specs.Answer.{orElse, sized}
-use Rattle.lists.specs.Words.{recordWidth, corridorLength, demandsLength, recordLength}
+use Rattle.lists.specs.Words.{recordWidth, corridorLength, recordLength}
 use Rattle.faults.specs.Lists.{within}
 use Rattle.payload.specs.File.{blocksFor, wordIn}
 use Rattle.payload.specs.Reading.{tested}
+use Rattle.block.specs.declared.Kind.{Kind}
+use Rattle.block.specs.declared.Kind.the-variants.{Demands}
+use Rattle.block.specs.Kinds.{listLength, fileKind}
 use Rattle.files.specs.Files.{readThenCheck}
 
 -- N: word 2 of the corridor's first block
@@ -23,9 +27,13 @@ demandsBlock input = blocksFor (corridorLength (linksIn input))
 unfoldable pub stepsIn : List ℕ → ℕ
 stepsIn input = wordIn input (demandsBlock input) 2
 
+-- the demands' kind: word 0 of their first block chooses
+unfoldable pub demandsKind : List ℕ → Kind
+demandsKind input = fileKind Demands (drop (demandsBlock input * 512) input)
+
 -- the block with which the record starts, and the one past its end
 unfoldable pub recordBlock : List ℕ → ℕ
-recordBlock input = demandsBlock input + blocksFor (demandsLength (linksIn input) (stepsIn input))
+recordBlock input = demandsBlock input + blocksFor (listLength (demandsKind input) (linksIn input) (stepsIn input))
 
 unfoldable pub endBlock : List ℕ → ℕ
 endBlock input = recordBlock input + blocksFor (recordLength recordWidth (linksIn input) (stepsIn input))

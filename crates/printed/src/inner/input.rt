@@ -1,11 +1,12 @@
-// The answer to an input: N and K are taken from the files themselves, then the files are read in turn and the record is checked.
+// The answer to an input: N, K and the demands' kind are taken from the files themselves, then the files are read in turn and the record is checked.
 ghost use mathlib.Core.Path.{_≡_};
-ghost use Prim.Native.Nat.{_≤_};
-ghost use lib.ListN.{length};
+ghost use Prim.Native.Nat.{_*_, _≤_};
+ghost use lib.ListN.{length, drop};
 ghost use Rattle.tables.specs.declared.Answer.the-variants.{Accepted};
 ghost use Rattle.payload.specs.File.{blocksFor};
-ghost use Rattle.block.specs.Kinds.{Told, listLength};
-ghost use Rattle.printed.specs.Input.{linksIn, stepsIn, inputAnswer};
+ghost use Rattle.block.specs.declared.Kind.the-variants.{Demands};
+ghost use Rattle.block.specs.Kinds.{Told, listLength, fileKind};
+ghost use Rattle.printed.specs.Input.{linksIn, stepsIn, demandsKind, inputAnswer};
 ghost use Rattle.printed.specs.Fits.{filesLeft, stepsLeft, Laid};
 use block::Kind;
 use block::inner::calls;
@@ -33,13 +34,22 @@ fn blocks_of(kind: Kind, n: u32, k: u32) -> usize
     reading::blocks_for(kinds::length_of(kind, n, k))
 }
 
-// Where the files stand.
-fn layout_of(n: u32, k: u32) -> Layout
+// The kind of the demands that start with a block of the input.
+fn demands_kind(input: &[u8], block: usize) -> Kind
+    requires { ⌜ block * 512 ≤ length (now input) ⌝ }
+    ensures { λ r. ⌜ r ≡ fileKind Demands (drop (block * 512) (now (input .entry))) ⌝ }
+{
+    let at = block * 512;
+    kinds::file_kind(Kind::Demands, &input[at..])
+}
+
+// Where the files stand, with demands of a kind.
+fn layout_of(kind: Kind, n: u32, k: u32) -> Layout
     requires { ⌜ Told n k ⌝ }
-    ensures { λ r. ⌜ Laid n k r ⌝ }
+    ensures { λ r. ⌜ Laid kind n k r ⌝ }
 {
     let demands = blocks_of(Kind::Corridor, n, k) * 512;
-    let recorded = demands + blocks_of(Kind::Demands, n, k) * 512;
+    let recorded = demands + blocks_of(kind, n, k) * 512;
     let end = recorded + blocks_of(Kind::Record, n, k) * 512;
     Layout {
         links: n,
@@ -53,20 +63,21 @@ fn layout_of(n: u32, k: u32) -> Layout
 // Where the files of an accepted input stand.
 pub fn layout_in(input: &[u8]) -> Layout
     requires { ⌜ inputAnswer (now input) ≡ Accepted ⌝ }
-    ensures { λ r. ⌜ Laid (linksIn (now (input .entry))) (stepsIn (now (input .entry))) r ⌝ }
+    ensures { λ r. ⌜ Laid (demandsKind (now (input .entry))) (linksIn (now (input .entry))) (stepsIn (now (input .entry))) r ⌝ }
 {
     let n = words::word_at(input, 2);
     let block = blocks_of(Kind::Corridor, n, 1);
-    layout_of(n, words::word_at(input, block * 128 + 2))
+    let k = words::word_at(input, block * 128 + 2);
+    layout_of(demands_kind(input, block), n, k)
 }
 
 // What is left to refuse once N and K are good.
-fn files_left(input: &[u8], n: u32, k: u32) -> Answer
+fn files_left(input: &[u8], kind: Kind, n: u32, k: u32) -> Answer
     requires { ⌜ Told n k ⌝ }
-    requires { ⌜ (n ≡ linksIn (now input)) × (k ≡ stepsIn (now input)) ⌝ }
+    requires { ⌜ (n ≡ linksIn (now input)) × (k ≡ stepsIn (now input)) × (kind ≡ demandsKind (now input)) ⌝ }
     ensures { λ r. ⌜ r ≡ filesLeft (now (input .entry)) ⌝ }
 {
-    let at = layout_of(n, k);
+    let at = layout_of(kind, n, k);
     let demands = at.demands;
     let recorded = at.recorded;
     if input.len() == at.end {
@@ -93,7 +104,7 @@ fn steps_left(input: &[u8], n: u32) -> Answer
     }
     let k = words::word_at(input, block * 128 + 2);
     if calls::told_fits(n, k) {
-        return files_left(input, n, k);
+        return files_left(input, demands_kind(input, block), n, k);
     }
     refusal(1, 0, 0)
 }

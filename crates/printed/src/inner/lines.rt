@@ -128,7 +128,7 @@ fn setting_of(
     let mut room = [0u32; 260];
     let row = &mut room[..wide];
     unpacked::step_rows(demands, recorded, links, steps, k, demand, row);
-    let downstream = words::downstream();
+    let downstream = unpacked::downstream(demands, links, steps, k);
     convert::inner::plans::setting_at(corridor, links, demand, downstream, row, width, i)
 }
 

@@ -20,19 +20,27 @@ word-at-requires-2 c κs =
     let w = c .before in
     omega (arith, kept-block _ (input-kept _ (w .before .before .pre)) _ (w .word-at .ensures) _ (c .blocks-of .ensures .0))
 
+demands-kind-requires : tie.Need-demands-kind-requires
+unfolding linksIn listLength
+demands-kind-requires c κs =
+    let b = c .before in
+    let w = b .before in
+    omega (arith, kept-block _ (input-kept _ (w .before .before .pre)) _ (w .word-at .ensures) _ (b .blocks-of .ensures .0))
+
 layout-of-requires : tie.Need-layout-of-requires
 unfolding linksIn listLength
 layout-of-requires c κs =
-    let b = c .before in
+    let b = c .before .before in
     let w = b .before in
-    kept-steps _ (input-kept _ (w .before .before .pre)) _ (w .word-at .ensures) _ (b .blocks-of .ensures .0) _ (c .word-at2 .ensures)
+    kept-steps _ (input-kept _ (w .before .before .pre)) _ (w .word-at .ensures) _ (b .blocks-of .ensures .0) _ (c .before .word-at2 .ensures)
 
 returns : tie.Need-returns
 unfolding linksIn listLength
 returns c =
-    let b = c .before .before in
+    let b = c .before .before .before in
     let w = b .before in
-    kept-laid _ (input-kept _ (w .before .before .pre)) _ (w .word-at .ensures) _ (b .blocks-of .ensures .0) _ (c .before .word-at2 .ensures) _ (c .layout-of .ensures)
+    kept-laid _ (input-kept _ (w .before .before .pre)) _ (w .word-at .ensures) _ (b .blocks-of .ensures .0) _ (c .before .before .word-at2 .ensures) _
+    (c .before .demands-kind .ensures) _ (c .layout-of .ensures)
 
 pub layout-in-spec : {M : Type 1} → statement M
 layout-in-spec =
@@ -43,5 +51,6 @@ layout-in-spec =
     (λ c. search needs)
     (λ c. search needs)
     word-at-requires-2
+    demands-kind-requires
     layout-of-requires
     returns)

@@ -2,18 +2,22 @@
 use borrow.Author.Needs.{needs}
 use Rattle.block.specs.Kinds.{listLength}
 use Rattle.block.proofs.Calls.{told-is}
-use Rattle.printed.proofs.Input.{steps-short, steps-are, steps-bad, steps-good}
+use Rattle.printed.proofs.Input.{steps-short, kind-is, steps-are, steps-bad, steps-good}
 use Rattle.printed.proofs.inner.input.steps_left.Statement.{statement}
 use Rattle.printed.proofs.inner.input.steps_left.Tie as tie
 
 files-left-requires : tie.Need-files-left-requires
 unfolding listLength
 files-left-requires c κs =
-    let w = c .before .before in
+    let w = c .before .before .before in
     let b = w .before .before in
     let k = b .before .before in (
-      told-is _ _ _ (c .before .told-fits .ensures) (c .if2 .taken),
-      (k .pre .1, steps-are _ _ (k .pre .1) _ (b .blocks-of .ensures .0) _ (w .word-at .ensures)),
+      told-is _ _ _ (c .before .before .told-fits .ensures) (c .before .if2 .taken),
+      (
+        k .pre .1,
+        steps-are _ _ (k .pre .1) _ (b .blocks-of .ensures .0) _ (w .word-at .ensures),
+        kind-is _ _ (k .pre .1) _ (b .blocks-of .ensures .0) _ (c .demands-kind .ensures),
+      ),
     )
 
 returns : tie.Need-returns
@@ -39,6 +43,7 @@ steps-left-spec =
     returns
     (λ c. search needs)
     (λ c. search needs)
+    (λ c κs. search needs)
     (λ c κs. search needs)
     (λ c κs. search needs)
     files-left-requires
