@@ -2,10 +2,9 @@
 -- so that the laws for a given kind carry over.
 use mathlib.Core.Bool.{Bool, true, false, cond}
 use mathlib.Core.List.{List}
-use mathlib.Core.Logic.{_≢_, _⊎_, inl, inr}
+use mathlib.Core.Logic.{_≢_}
 use mathlib.Core.Path.{_≡_, refl, sym, ap, _∙_}
 use Prim.Native.Nat.{ℕ, _+_, _*_, _≤_, _<_}
-use native.Mathlib.Decide.{ℕ-discrete}
 use native.Mathlib.Omega.{arith}
 use borrow.Author.Tests.{eq-eqb, ne-eqb, le-leb}
 use lib.Dec.{eqb, lit<}
@@ -31,7 +30,7 @@ use Rattle.block.proofs.EachKind.{number-fits, wrote, got, written-then
 -- ---- word 0 of a file's first block
 
 -- a file of at least one word opens with its kind's number
-opens-with : (number : ℕ) (words : List ℕ) → number < 4294967296 → 1 ≤ length words → kindWord (fileOf number words) ≡ number
+pub opens-with : (number : ℕ) (words : List ℕ) → number < 4294967296 → 1 ≤ length words → kindWord (fileOf number words) ≡ number
 unfolding kindWord fileOf blockWord bodyWord
 opens-with number words h l =
     let size : length (fileOf number words) ≡ blocksFor (length words) * 512 = file-length number words in
@@ -144,19 +143,3 @@ module _ (p : Kind) (n k : ℕ) (file other lent : List ℕ) (t i : ℕ) (hf : B
   pub chosen-change-seen : fileKind p other ≡ fileKind p file
       → (readAnswer (fileKind p other) n k other (length lent) ≡ Refused 15 t 0) × (wordsRead (fileKind p other) n k other lent ≡ lent)
   chosen-change-seen same = rw same (change-seen (fileKind p file) n k file other lent t i hf ho within change read h)
-
-  -- so each change is refused
-  pub chosen-change-refused : (readAnswer (fileKind p other) n k other (length lent) ≡ Refused 15 t 0)
-      ⊎ ((t * 128 + i ≡ 0) × (readAnswer (fileKind p other) n k other (length lent) ≡ Refused 1 0 0))
-  chosen-change-refused =
-      let told = told-is n k (toldFits n k) refl (read-kept (fileKind p file) n k file (length lent) .0 read .told) in
-      elim (ℕ-discrete (listLength (fileKind p other) n k) (listLength (fileKind p file) n k)) [
-        | yes e ↦ inl (chosen-change-seen (same-length p n k file other told e) .0)
-        | no d ↦
-            let differs : fileKind p other ≢ fileKind p file = λ e. d (ap (λ (kind : Kind). listLength kind n k) e) in
-            inr (by (ℕ-discrete (t * 128 + i) 0) differs, other-kind-seen p n k file other lent read differs .0)
-      ]
-    where
-      by : Dec (t * 128 + i ≡ 0) → fileKind p other ≢ fileKind p file → t * 128 + i ≡ 0
-      by (yes e) d = e
-      by (no c) d = absurd (d (kind-kept p file other t i change c))

@@ -1,6 +1,6 @@
 -- What refusals 7 to 13 and the converter's plan say of a road is told by nodes 0..N and steps 0..K − 1 alone: roads that agree there have
 -- the same.
-use Prim.Native.Nat.{ℕ, zero, suc, _≤_, _<_}
+use Prim.Native.Nat.{ℕ, suc, _≤_, _<_}
 use mathlib.Core.List.{List}
 use mathlib.Core.Path.{_≡_, ap, ap₂, _∙_}
 use native.Mathlib.Omega.{arith}
@@ -10,7 +10,7 @@ use Rattle.tables.specs.First.{firstPlace}
 use Rattle.tables.proofs.First.{firstPlace-same}
 use Rattle.road.specs.Corridor.{Node, NodeState, Road, Trace, nodes}
 use Rattle.road.specs.Step.{Junction}
-use Rattle.road.specs.Run.{junction, next, cost}
+use Rattle.road.specs.Run.{cost}
 use Rattle.road.proofs.Roads.{SameRoads, withSizes, with-sizes, roads-junction, roads-next}
 use Rattle.road.proofs.Same.{SameSetting}
 use Rattle.settings.specs.declared.Setting.{Setting}
@@ -30,7 +30,7 @@ module _ (road other : Road) (e : SameRoads road other) (width : ℕ) (words : L
 
   like-fixed : firstPlace (suc (road .steps)) (nodes road) (fixedAt road trace) ≡ firstPlace (suc (road .steps)) (nodes road) (fixedAt like trace)
   unfolding fixedFault
-  like-fixed = firstPlace-same (suc (road .steps)) (nodes road) _ _ 
+  like-fixed = firstPlace-same (suc (road .steps)) (nodes road) _ _
       (λ k i hk hi. ap (λ (n : Node). fixedFault (record { links = road .links; steps = road .steps; node = λ j. n; arrivals = other .arrivals; split = other .split; downstream = other .downstream }) k i (trace .state k i) (trace .flows k i)) (e .node i (omega arith)))
 
   like-steps : firstPlace (road .steps) (nodes road) (stepAt road trace) ≡ firstPlace (road .steps) (nodes road) (stepAt like trace)

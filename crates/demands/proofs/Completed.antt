@@ -1,7 +1,7 @@
 -- Demands of kind 2 and the same completed are proved to do the same: they tell roads that agree at every node and step.
-use Prim.Native.Nat.{ℕ, zero, suc, _+_, _*_, _≤_, _<_}
+use Prim.Native.Nat.{ℕ, suc, _+_, _≤_, _<_}
 use mathlib.Core.Bool.{Bool, true, false, _&&_, _||_}
-use mathlib.Core.List.{List, _++_}
+use mathlib.Core.List.{List}
 use mathlib.Core.Path.{_≡_, refl, sym, ap, ap₂, _∙_}
 use native.Mathlib.Omega.{arith}
 use borrow.Author.Tests.{eq-eqb}
@@ -12,11 +12,9 @@ use Rattle.tables.specs.declared.Answer.{Answer}
 use Rattle.tables.specs.Answer.{orElse, sized, left}
 use Rattle.tables.specs.Grid.{place}
 use Rattle.tables.proofs.Grid.{place-fits}
-use Rattle.road.specs.Corridor.{Road}
-use Rattle.road.specs.Run.{run}
 use Rattle.road.proofs.Roads.{SameRoads}
 use Rattle.faults.specs.Lists.{within}
-use Rattle.lists.specs.Words.{linksOf, stepsOf, corridorLength, demandsLength, downstreamLength, downstreamWord, free, roadOf, planOf, planLength, recordLength, recordWidth}
+use Rattle.lists.specs.Words.{linksOf, stepsOf, corridorLength, demandsLength, downstreamLength, downstreamWord, free, roadOf, planLength, recordLength, recordWidth}
 use Rattle.lists.specs.Refusals.{demandsSized, sizes, ranges, planBounds}
 use Rattle.lists.proofs.Roads.{roads-ranges, roads-bounds, roads-record}
 use Rattle.simulate.specs.Simulate.{simulateSizes, simulateAnswer, simulated, recordLeft}
@@ -111,7 +109,7 @@ module _ (corridor demands : List ℕ) (fits : length demands ≡ demandsLength 
   unfolding simulated
   simulates plan = roads-record _ _ roads recordWidth plan
 
-  converts : (words : List ℕ) → converted corridor demands words ≡ converted corridor full words
+  pub converts : (words : List ℕ) → converted corridor demands words ≡ converted corridor (completed (stepsOf demands) demands) words
   unfolding converted
   converts words = roads-plan _ _ roads recordWidth words
 

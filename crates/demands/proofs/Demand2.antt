@@ -10,7 +10,7 @@ use Rattle.lists.specs.Words.{roadOf, planOf, recordWidth}
 use Rattle.lists.proofs.Words.{record-wide, record-length, record-read, record-cost}
 use Rattle.simulate.specs.Simulate.{simulated}
 use Rattle.block.specs.declared.Kind.{Kind}
-use Rattle.block.proofs.EachKind.{written-then-read, read-then-written, change-seen}
+use Rattle.block.proofs.Chosen.{chosen-written-then-read, chosen-read-then-written, chosen-change-seen, other-kind-seen, kind-kept}
 use Rattle.demands.specs.Demand2.{SimulatedRecord, BlockFiles, Demand2}
 
 simulated-is : (corridor demands words : List ℕ) → SimulatedRecord corridor demands words (roadOf corridor demands) (planOf (roadOf corridor demands) words)
@@ -28,12 +28,15 @@ simulated-is corridor demands words =
       cost-high = record-cost recordWidth road (run road plan) .high;
     }
 
-files-are : (kind : Kind) (n k : ℕ) → BlockFiles kind n k
-files-are kind n k =
+files-are : (place : Kind) (n k : ℕ) → BlockFiles place n k
+files-are place n k =
     record {
-      words-come-back = λ words file lent right accepted fits. written-then-read kind n k words file lent right accepted fits;
-      bytes-come-back = λ file words lent right accepted fits. read-then-written kind n k file words lent right accepted fits;
-      a-change-is-seen = λ file other lent t i right changed few one accepted within. change-seen kind n k file other lent t i right changed few one accepted within .0;
+      words-come-back = λ words file lent right accepted fits. chosen-written-then-read place n k words file lent right accepted fits;
+      bytes-come-back = λ file words lent right accepted fits. chosen-read-then-written place n k file words lent right accepted fits;
+      a-change-is-seen = λ file other lent t i right changed few one accepted within same.
+          chosen-change-seen place n k file other lent t i right changed few one accepted within same .0;
+      another-kind-is-seen = λ file other lent accepted differs. other-kind-seen place n k file other lent accepted differs .0;
+      only-word-0-chooses = kind-kept place;
     }
 
 pub demand2 : Demand2

@@ -1,5 +1,6 @@
 -- Demand 2 in its own words: the simulator's record, and block files.
-use Prim.Native.Nat.{ℕ, _≤_, _<_, _+_, _%_, _/_}
+use Prim.Native.Nat.{ℕ, _≤_, _<_, _+_, _*_, _%_, _/_}
+use mathlib.Core.Logic.{_≢_}
 use mathlib.Core.List.{List}
 use mathlib.Core.Path.{_≡_}
 use lib.ListN.{length, getD}
@@ -12,7 +13,7 @@ use Rattle.simulate.specs.Simulate.{simulated}
 use Rattle.payload.specs.Word.{Bytes, Words}
 use Rattle.payload.specs.File.{blocksFor, OneChange}
 use Rattle.block.specs.declared.Kind.{Kind}
-use Rattle.block.specs.Kinds.{listLength}
+use Rattle.block.specs.Kinds.{listLength, fileKind, listKind}
 use Rattle.block.specs.Calls.{readAnswer, wordsRead, writeAnswer, fileWritten}
 
 -- "the simulator's record equals the Link-Node Cell Transmission Model as document 01 rounds it to whole units:"
@@ -27,20 +28,39 @@ pub record SimulatedRecord (corridor demands words : List ℕ) (road : Road) (pl
   pub cost-low : getD (simulated corridor demands words) (traceLength recordWidth (road .links) (road .steps)) 0 ≡ cost road (run road plan) % 4294967296
   pub cost-high : getD (simulated corridor demands words) (traceLength recordWidth (road .links) (road .steps) + 1) 0 ≡ cost road (run road plan) / 4294967296
 
--- "Block files follow document 01:" for each kind, told N and K
-pub record BlockFiles (kind : Kind) (n k : ℕ) : Type 0 where
+-- ---- the reader and the writer of a place, which its oldest kind names: in a list the length chooses the kind, in a file its word 0
+
+abbrev pub writes : Kind → ℕ → ℕ → List ℕ → ℕ → Answer
+writes place n k words room = writeAnswer (listKind place n k (length words)) n k words room
+
+abbrev pub fileMade : Kind → ℕ → ℕ → List ℕ → List ℕ → List ℕ
+fileMade place n k words lent = fileWritten (listKind place n k (length words)) n k words lent
+
+abbrev pub reads : Kind → ℕ → ℕ → List ℕ → ℕ → Answer
+reads place n k file room = readAnswer (fileKind place file) n k file room
+
+abbrev pub wordsMade : Kind → ℕ → ℕ → List ℕ → List ℕ → List ℕ
+wordsMade place n k file lent = wordsRead (fileKind place file) n k file lent
+
+-- "Block files follow document 01:" for each place, told N and K
+pub record BlockFiles (place : Kind) (n k : ℕ) : Type 0 where
   -- "words written and then read come back the same,"
-  pub words-come-back : (words file lent : List ℕ) → Words words → writeAnswer kind n k words (length file) ≡ Accepted → length lent ≡ length words
-      → (readAnswer kind n k (fileWritten kind n k words file) (length lent) ≡ Accepted) × (wordsRead kind n k (fileWritten kind n k words file) lent ≡ words)
+  pub words-come-back : (words file lent : List ℕ) → Words words → writes place n k words (length file) ≡ Accepted → length lent ≡ length words
+      → (reads place n k (fileMade place n k words file) (length lent) ≡ Accepted) × (wordsMade place n k (fileMade place n k words file) lent ≡ words)
   -- "and an accepted file read and rewritten has the same bytes."
-  pub bytes-come-back : (file words lent : List ℕ) → Bytes file → readAnswer kind n k file (length words) ≡ Accepted → length lent ≡ length file
-      → (writeAnswer kind n k (wordsRead kind n k file words) (length lent) ≡ Accepted) × (fileWritten kind n k (wordsRead kind n k file words) lent ≡ file)
-  -- "Any change to just one of words 0..126 is seen."
+  pub bytes-come-back : (file words lent : List ℕ) → Bytes file → reads place n k file (length words) ≡ Accepted → length lent ≡ length file
+      → (writes place n k (wordsMade place n k file words) (length lent) ≡ Accepted) × (fileMade place n k (wordsMade place n k file words) lent ≡ file)
+  -- "Any change to just one of words 0..126 is seen": by 15 at its block,
   pub a-change-is-seen : (file other lent : List ℕ) (t i : ℕ) → Bytes file → Bytes other → i < 127 → OneChange file other t i
-      → readAnswer kind n k file (length lent) ≡ Accepted → t < blocksFor (listLength kind n k) → readAnswer kind n k other (length lent) ≡ Refused 15 t 0
+      → reads place n k file (length lent) ≡ Accepted → t < blocksFor (listLength (fileKind place file) n k) → fileKind place other ≡ fileKind place file
+      → reads place n k other (length lent) ≡ Refused 15 t 0
+  -- and where it makes the file one of another kind, by 1, since the lent list has the length of the first; only word 0 of the file can
+  pub another-kind-is-seen : (file other lent : List ℕ) → reads place n k file (length lent) ≡ Accepted → fileKind place other ≢ fileKind place file
+      → reads place n k other (length lent) ≡ Refused 1 0 0
+  pub only-word-0-chooses : (file other : List ℕ) (t i : ℕ) → OneChange file other t i → t * 128 + i ≢ 0 → fileKind place other ≡ fileKind place file
 
 pub record Demand2 : Type 0 where
   -- for every corridor, demand series and plan, whatever their words
   pub simulated-record : (corridor demands plan : List ℕ)
       → SimulatedRecord corridor demands plan (roadOf corridor demands) (planOf (roadOf corridor demands) plan)
-  pub block-files : (kind : Kind) (n k : ℕ) → BlockFiles kind n k
+  pub block-files : (place : Kind) (n k : ℕ) → BlockFiles place n k

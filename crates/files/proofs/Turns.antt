@@ -30,7 +30,7 @@ use Rattle.files.proofs.Contents.{own-links, own-steps}
 use Rattle.files.proofs.Answers.{files-fit}
 
 -- an answer that comes second counts only where the first accepts
-second-same : (a x y : Answer) → (a ≡ Accepted → x ≡ y) → orElse a x ≡ orElse a y
+pub second-same : (a x y : Answer) → (a ≡ Accepted → x ≡ y) → orElse a x ≡ orElse a y
 second-same Accepted x y h = h refl
 second-same (Refused number row node) x y h = refl
 
@@ -115,7 +115,7 @@ module _ (n k : ℕ) (corridor demands recorded a b c : List ℕ) (told : toldFi
       ∙ ap (λ (x : List ℕ). fileWritten Plan n k x lent) (sym same)
 
 -- 1 before all, or all of them told a good N and K
-sized-same : (t : Bool) (x y : Answer) → (t ≡ true → x ≡ y) → orElse (sized t) x ≡ orElse (sized t) y
+pub sized-same : (t : Bool) (x y : Answer) → (t ≡ true → x ≡ y) → orElse (sized t) x ≡ orElse (sized t) y
 sized-same true x y h = h refl
 sized-same false x y h = refl
 

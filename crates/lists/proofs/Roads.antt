@@ -1,16 +1,15 @@
 -- What refusals 2 to 6 and a plan's record say of a road is told by nodes 0..N and steps 0..K − 1 alone: roads that agree there have the same.
-use Prim.Native.Nat.{ℕ, suc, _≤_, _<_}
-use mathlib.Core.Bool.{Bool, true, false}
+use Prim.Native.Nat.{ℕ, _≤_}
+use mathlib.Core.Bool.{Bool}
 use mathlib.Core.List.{List}
-use mathlib.Core.Path.{_≡_, sym, ap, ap₂, _∙_}
+use mathlib.Core.Path.{_≡_, ap, ap₂, _∙_}
 use native.Mathlib.Omega.{arith}
 use lib.Dec.{eqb}
 use Rattle.tables.specs.declared.Answer.{Answer}
 use Rattle.tables.specs.Answer.{orElse, refusal}
-use Rattle.tables.specs.Least.{least}
 use Rattle.tables.proofs.First.{first-same, firstPlace-same}
 use Rattle.tables.proofs.Least.{least-same}
-use Rattle.road.specs.Corridor.{Node, Road, Plan, nodes}
+use Rattle.road.specs.Corridor.{Node, Road, nodes}
 use Rattle.road.specs.Run.{run, cost}
 use Rattle.road.proofs.Roads.{SameRoads, withSizes, with-sizes, roads-run}
 use Rattle.faults.specs.Lists.{linkFault, rampFault, startFault, demandFault, planFault}

@@ -6,7 +6,7 @@ use native.Mathlib.Omega.{arith}
 use Rattle.tables.proofs.Numbers.{le-or-lt}
 use Rattle.road.specs.Corridor.{Node, NodeState, Road, Plan, Flows}
 use Rattle.road.specs.Step.{Junction, receiving, flowsWith, outflow, moved}
-use Rattle.road.specs.Run.{supply, junction, inflow, next, planFlows, stateAt, noFlow, run}
+use Rattle.road.specs.Run.{supply, junction, inflow, next, planFlows, stateAt, run}
 use Rattle.road.proofs.Runs.{supply-inside, supply-last, run-flows, run-last}
 use Rattle.road.proofs.Same.{Same, SameTraces, junction-same, next-same}
 

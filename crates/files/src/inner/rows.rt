@@ -26,14 +26,7 @@ pub fn demand_at(corridor: &[u32], links: usize, steps: usize, demands: &[u8], k
     let row = &mut room[..narrow];
     unpacked::demand_row(demands, links, steps, k, row);
     let downstream = unpacked::downstream(demands, links, steps, k);
-    scans::scan_nodes(
-        scans::NodeTest::Demand,
-        k,
-        corridor,
-        links,
-        row,
-        downstream,
-    )
+    scans::scan_nodes(scans::NodeTest::Demand, k, corridor, links, row, downstream)
 }
 
 // The first node of state k with refusal 7.
