@@ -67,8 +67,8 @@ pub fn layout_in(input: &[u8]) -> Layout
 {
     let n = words::word_at(input, 2);
     let block = blocks_of(Kind::Corridor, n, 1);
-    let k = words::word_at(input, block * 128 + 2);
-    layout_of(demands_kind(input, block), n, k)
+    let steps = words::word_at(input, block * 128 + 2);
+    layout_of(demands_kind(input, block), n, steps)
 }
 
 // What is left to refuse once N and K are good.
