@@ -29,7 +29,7 @@ module _ (links : ℕ) (demands : List ℕ) (fits : length demands ≡ demandsLe
 
   kept : (j : ℕ) → j < length demands → getD demands j 0 ≡ getD other j 0
   unfolding completed
-  kept j h = sym (List·getD-append demands (replicate (stepsOf demands) free) 0 j h)
+  kept j h = sym (List·getD-append demands _ 0 j h)
 
   steps-same : stepsOf demands ≡ stepsOf other
   unfolding stepsOf
@@ -37,7 +37,7 @@ module _ (links : ℕ) (demands : List ℕ) (fits : length demands ≡ demandsLe
 
   length-other : length other ≡ length demands + stepsOf demands
   unfolding completed
-  length-other = length-append demands (replicate (stepsOf demands) free) ∙ ap (λ (n : ℕ). length demands + n) (length-replicate (stepsOf demands) free)
+  length-other = length-append demands _ ∙ ap (λ (n : ℕ). length demands + n) (length-replicate (stepsOf demands) _)
 
   -- the words of the rows, and those after them
   word-same : (k i q : ℕ) → k < stepsOf demands → i ≤ links → q < 2 → getD demands (1 + place 2 (suc links) k i q) 0 ≡ getD other (1 + place 2 (suc links) k i q) 0

@@ -7,16 +7,16 @@ use mathlib.Core.Path.{_≡_, refl, sym, ap, _∙_}
 use native.Mathlib.Numerals.{add-one}
 use native.Mathlib.Omega.{arith}
 use lib.Dec.{eqb}
-use lib.ListN.{length, getD}
+use lib.ListN.{getD}
 use Rattle.tables.proofs.Tabulate.{tabulate-at, tabulate-past}
 use Rattle.lists.specs.Words.{demandsLength, downstreamLength, free}
 use Rattle.lists.proofs.Limits.{DemandsSized}
-use Rattle.payload.specs.File.{blocksFor, payloadWord}
+use Rattle.payload.specs.File.{payloadWord}
 use Rattle.block.specs.declared.Kind.{Kind}
 use Rattle.block.specs.declared.Kind.the-variants.{Demands, DemandsDownstream}
 use Rattle.block.specs.Kinds.{kindNumber, listLength, ownAgrees, kindWord, fileKind}
 use Rattle.files.specs.Files.{demandsCount, demandsIn}
-use Rattle.files.specs.Fits.{Holds, downstreamIn}
+use Rattle.files.specs.Fits.{downstreamIn}
 
 -- what holds of both kinds holds of the kind that a file chooses
 chosen : (P : Kind → Type 0) (file : List ℕ) → P DemandsDownstream → P Demands → P (fileKind Demands file)
@@ -46,7 +46,7 @@ module _ (links steps k : ℕ) (file : List ℕ) (has : Bool) (e : has ≡ eqb (
   unfolding fileKind
   count-is = ap (λ (t : Bool). listLength (cond t DemandsDownstream Demands) links steps) (sym e)
 
-  module _ (long : has ≡ true) (h : k < steps) (rows : ℕ) (r : rows ≡ steps * ((links + 1) * 2)) where
+  module _ (long : has ≡ true) (rows : ℕ) (r : rows ≡ steps * ((links + 1) * 2)) where
     count-long : demandsCount links steps file ≡ downstreamLength links steps
     unfolding listLength
     count-long = count-is ∙ ap (λ (t : Bool). listLength (cond t DemandsDownstream Demands) links steps) long
@@ -54,11 +54,11 @@ module _ (links steps k : ℕ) (file : List ℕ) (has : Bool) (e : has ≡ eqb (
     at-is : 1 + rows ≡ demandsLength links steps
     at-is = ap (λ (n : ℕ). 1 + n) (r ∙ ap (λ (n : ℕ). steps * (n * 2)) (add-one links))
 
-    pub downstream-holds : Holds (demandsCount links steps file) file → blocksFor (1 + rows + k + 1) * 512 ≤ length file
-    downstream-holds holds = omega (arith, count-long, at-is)
+    pub downstream-ends : demandsCount links steps file ≡ 1 + rows + steps
+    downstream-ends = omega (arith, count-long, at-is)
 
-    pub downstream-read : (x : ℕ) → x ≡ payloadWord file (1 + rows + k) → x ≡ downstreamIn links steps file k
-    downstream-read x word =
+    pub downstream-read : k < steps → (x : ℕ) → x ≡ payloadWord file (1 + rows + k) → x ≡ downstreamIn links steps file k
+    downstream-read h x word =
         word
         ∙ sym (tabulate-at (demandsCount links steps file) (payloadWord file) (1 + rows + k) free (omega (arith, count-long, at-is)))
         ∙ ap (λ (n : ℕ). getD (demandsIn links steps file) (n + k) free) at-is

@@ -2,9 +2,15 @@
 use native.Mathlib.Omega.{arith}
 use borrow.Author.Needs.{needs}
 use Rattle.lists.proofs.Sizes.{rows-few}
-use Rattle.files.proofs.Demands.{downstream-holds, downstream-read, downstream-none}
+use Rattle.files.proofs.Demands.{downstream-ends, downstream-read, downstream-none}
 use Rattle.files.proofs.inner.unpacked.downstream.Statement.{statement}
 use Rattle.files.proofs.inner.unpacked.downstream.Tie as tie
+
+word-of-requires : tie.Need-word-of-requires
+word-of-requires c κs =
+    let f = c .before .before in
+    let k = f .before .before in
+    omega (arith, downstream-ends _ _ (k .args .k) _ _ (f .has-downstream .ensures) (c .before .if1 .taken) _ (c .table-length .ensures), k .pre .2, k .pre .3)
 
 pub downstream-spec : {M : Type 1} → statement M
 downstream-spec =
@@ -16,6 +22,6 @@ downstream-spec =
     (λ c κs. search needs)
     (λ c. search needs)
     (λ c. let k = c .before .before .before .before in omega (arith, c .table-length .ensures, rows-few _ _ (k .pre .0) (k .pre .1), k .pre .2))
-    (λ c κs. search downstream-holds)
+    word-of-requires
     (λ c. search downstream-read)
     (λ c. search downstream-none))
