@@ -1,11 +1,11 @@
 /* Every call of the header once, on B, document 01's worked corridor: case 1 simulated, checked, converted and brought to normal form, by words,
- * by nodes and by files. It prints nothing and ends with status 0 where all is as worked there. */
+ * by nodes and by files; then with demands of kind 5, which let 70 units out of link 2. It prints nothing and ends with status 0 where all is as worked there. */
 #include "gigorchid.h"
 
 #include <stdio.h>
 #include <string.h>
 
-enum { N = 2, K = 1, CORRIDOR = 28, DEMANDS = 7, PLAN = 6, RECORD = 26, BLOCK = 512 };
+enum { N = 2, K = 1, CORRIDOR = 28, DEMANDS = 7, DOWNSTREAM = 8, PLAN = 6, RECORD = 26, BLOCK = 512 };
 
 static const struct gigorchid_node nodes[N + 1] = {
     {10, 0, 0, 0, 0, 100, 1000, 0, 0},
@@ -15,6 +15,8 @@ static const struct gigorchid_node nodes[N + 1] = {
 static const uint32_t demands[DEMANDS] = {1, 30, 0, 10, 16384, 0, 0};
 static const uint32_t plan[PLAN] = {100, 0, 60, 32768, 0, 32768};
 static const uint32_t record[RECORD] = {0, 0, 0, 0, 200, 50, 80, 40, 200, 0, 100, 0, 0, 30, 0, 0, 120, 20, 0, 0, 200, 0, 0, 0, 370, 0};
+static const uint32_t downstream[DOWNSTREAM] = {1, 30, 0, 10, 16384, 0, 0, 70};
+static const uint32_t behind[RECORD] = {0, 0, 0, 0, 200, 50, 80, 40, 200, 0, 70, 0, 0, 30, 0, 0, 120, 20, 0, 0, 230, 0, 0, 0, 400, 0};
 static const uint32_t normal[PLAN] = {0, 0, 50, 32768, 0, 32768};
 
 static uint32_t corridor[CORRIDOR], work[RECORD], found[PLAN];
@@ -104,9 +106,33 @@ static int read_back(void)
     return 0;
 }
 
+/* Link 2 sends 100, and 70 may leave it. */
+static int with_downstream(void)
+{
+    uint32_t words[DOWNSTREAM];
+    clear();
+    if (gigorchid_simulate_words(corridor, CORRIDOR, downstream, DOWNSTREAM, plan, PLAN, work, RECORD) != 0 || !same(work, behind, RECORD))
+        return wrong("simulate_words with demands of kind 5");
+    if (gigorchid_write_demands(N, K, downstream, DOWNSTREAM, demands_file, BLOCK) != 0 || demands_file[0] != 5
+        || gigorchid_demands_words(N, K, demands_file, BLOCK) != DOWNSTREAM)
+        return wrong("write_demands of kind 5");
+    if (gigorchid_read_demands(N, K, demands_file, BLOCK, words, DOWNSTREAM) != 0 || !same(words, downstream, DOWNSTREAM))
+        return wrong("read_demands of kind 5");
+    if (gigorchid_read_demands(N, K, demands_file, BLOCK, words, DEMANDS) != 1)
+        return wrong("demands of kind 5 read into a list of kind 2's length");
+    if (gigorchid_write_record(N, K, behind, RECORD, record_file, BLOCK) != 0
+        || gigorchid_convert_files(N, K, corridor_file, BLOCK, demands_file, BLOCK, record_file, BLOCK, plan_file, BLOCK) != 0
+        || gigorchid_read_plan(N, K, plan_file, BLOCK, found, PLAN) != 0 || !same(found, normal, PLAN))
+        return wrong("convert_files with demands of kind 5");
+    work[10] = 71;
+    if (gigorchid_check_words(corridor, CORRIDOR, downstream, DOWNSTREAM, work, RECORD) != 2 * 256 + GIGORCHID_BAD_MERGE)
+        return wrong("71 out of link 2");
+    return 0;
+}
+
 int main(void)
 {
     corridor[0] = N;
     memcpy(corridor + 1, nodes, sizeof nodes);
-    return by_words() || by_nodes() || by_files() || read_back();
+    return by_words() || by_nodes() || by_files() || read_back() || with_downstream();
 }

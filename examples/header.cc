@@ -7,10 +7,12 @@
 
 static_assert(GIGORCHID_CORRIDOR_WORDS(GIGORCHID_MOST_LINKS) == 586, "corridor");
 static_assert(GIGORCHID_DEMANDS_WORDS(GIGORCHID_MOST_LINKS, GIGORCHID_MOST_STEPS) == 187201, "demands");
+static_assert(GIGORCHID_DEMANDS_5_WORDS(GIGORCHID_MOST_LINKS, GIGORCHID_MOST_STEPS) == 188641, "demands of kind 5");
 static_assert(GIGORCHID_PLAN_WORDS(GIGORCHID_MOST_LINKS, GIGORCHID_MOST_STEPS) == 187200, "plan");
 static_assert(GIGORCHID_RECORD_WORDS(GIGORCHID_MOST_LINKS, GIGORCHID_MOST_STEPS) == 374662, "record");
 static_assert(GIGORCHID_FILE_BYTES(586) == 2560, "file of a corridor");
 static_assert(GIGORCHID_FILE_BYTES(187201) == 766976, "file of demands");
+static_assert(GIGORCHID_FILE_BYTES(188641) == 773120, "file of demands of kind 5");
 static_assert(GIGORCHID_FILE_BYTES(187200) == 766976, "file of a plan");
 static_assert(GIGORCHID_FILE_BYTES(374662) == 1534976, "file of a record");
 static_assert(GIGORCHID_FILE_BYTES(125) == GIGORCHID_BLOCK_BYTES && GIGORCHID_FILE_BYTES(126) == 2 * GIGORCHID_BLOCK_BYTES, "full block");
@@ -49,7 +51,19 @@ static bool answer_taken_apart()
         && normal[0] == 9 && GIGORCHID_REFUSAL(high) == GIGORCHID_BAD_MERGE && GIGORCHID_NODE(high) == 2 && GIGORCHID_ROW(high) == 3;
 }
 
+// A file tells by its first word, all four bytes of it, how many words its demands have.
+static bool kinds_told()
+{
+    const uint8_t five[] = {5, 0, 0, 0}, two[] = {2, 0, 0, 0}, others[][4] = {{5, 1, 0, 0}, {5, 0, 1, 0}, {5, 0, 0, 1}, {0, 5, 0, 0}};
+    for (const uint8_t(&other)[4] : others)
+        if (gigorchid_demands_words(2, 3, other, 4) != GIGORCHID_DEMANDS_WORDS(2, 3))
+            return false;
+    return gigorchid_demands_words(2, 3, five, 4) == GIGORCHID_DEMANDS_5_WORDS(2, 3)
+        && gigorchid_demands_words(2, 3, two, 4) == GIGORCHID_DEMANDS_WORDS(2, 3)
+        && gigorchid_demands_words(2, 3, five, 3) == GIGORCHID_DEMANDS_WORDS(2, 3);
+}
+
 int main()
 {
-    return version_agrees() && texts_differ() && answer_taken_apart() ? 0 : 1;
+    return version_agrees() && texts_differ() && answer_taken_apart() && kinds_told() ? 0 : 1;
 }

@@ -40,6 +40,7 @@
  *     l       queue of an on-ramp           1/64 vehicle                    in the corridor, as the start, 0..L
  *     Q       arrivals at an on-ramp        1/64 vehicle per step           0..65,536
  *     b       split to the off-ramp         parts of 65,536                 0..65,536
+ *     P       flow that may leave link N    1/64 vehicle per step           0..65,536
  *     rate    metering rate of an on-ramp   1/64 vehicle per step           0..C
  *     limit   speed limit on a link         1/65,536 of its length a step   0..V
  *     f       flow that leaves a link       1/64 vehicle per step           in a record
@@ -49,20 +50,24 @@
  * ---- Lists: the order of their words ----
  *
  *     corridor  N, then for each node 0..N:                     identifier, F, V, W, J, C, L, n, l
- *     demands   K, then for each step 0..K-1, each node 0..N:   Q, b
+ *     demands   K, then for each step 0..K-1, each node 0..N:   Q, b; of kind 5 then for each step 0..K-1: P
  *     plan      for each step 0..K-1, each node 0..N:           rate, limit
  *     record    for each state 0..K, each node 0..N:            n, l, f, r; then the cost, 2 words
  *
  * At node i F, V, W, J, n, f and limit are those of link i; C, L, l, r, Q and rate those of its on-ramp; b that of its off-ramp.
  * Fixed at zero: F, V, W, J, n, f, b and limit of node 0; C, L, l, r, Q, b and rate of node N; every f and r of state K.
  *
+ * Demands are of kind 2, or of kind 5, for a corridor behind which traffic backs up. In a list the count of its words tells which, in a file
+ * the first word of the file: 5 is kind 5, and any other, or a file of fewer than 4 bytes, is read as kind 2. Every call takes both. Kind 2 is
+ * kind 5 with P = 65,536 in every step, as much as any link sends: traffic past link N is free.
+ *
  * ---- A step, at node i; every quotient is rounded down ----
  *
  *     1  sending       D = min(n x limit / 65,536, F)                       of link i; 0 at node 0
  *     2  through part  T(y) = y - y x b / 65,536, of a flow y               the rest leaves by the off-ramp
  *     3  offer         d = min(l, C, rate)                                  of the on-ramp; 0 at node N
- *     4  receiving     S = min(F, W x (J - n) / 65,536)                     all of link i + 1
- *     5  merge         R = T(D) + d; where R <= S, and at node N, f = D and r = d; else f = D x S / R and r = d x S / R
+ *     4  receiving     S = min(F, W x (J - n) / 65,536)                     all of link i + 1; S = P at node N
+ *     5  merge         R = T(D) + d; where R <= S, f = D and r = d; else f = D x S / R and r = d x S / R; so at node N f = min(D, P)
  *     6  next state    link i + 1 gains T(f) + r, link i loses its f, and l becomes l + Q - r; all nodes at once
  */
 #ifndef GIGORCHID_H
@@ -73,9 +78,9 @@
 
 /* The version of this header and of the library that comes with it; the library itself does not tell. */
 #define GIGORCHID_VERSION_MAJOR 0
-#define GIGORCHID_VERSION_MINOR 1
+#define GIGORCHID_VERSION_MINOR 2
 #define GIGORCHID_VERSION_PATCH 0
-#define GIGORCHID_VERSION_TEXT "0.1.0"
+#define GIGORCHID_VERSION_TEXT "0.2.0"
 /* The three as one number, to compare: 10,000 x major + 100 x minor + patch. */
 #define GIGORCHID_VERSION (GIGORCHID_VERSION_MAJOR * 10000 + GIGORCHID_VERSION_MINOR * 100 + GIGORCHID_VERSION_PATCH)
 
@@ -92,26 +97,37 @@ extern "C" {
  * once, and are constants where their arguments are, though not in #if. They test nothing and may wrap: see that N and K are in range first.
  * The longest lists, for 64 links and 1,440 steps:
  *
- *              words     bytes of its file
- *     corridor     586       2,560
- *     demands  187,201     766,976
- *     plan     187,200     766,976
- *     record   374,662   1,534,976
+ *                        words     bytes of its file
+ *     corridor               586       2,560
+ *     demands of kind 2  187,201     766,976
+ *     demands of kind 5  188,641     773,120
+ *     plan               187,200     766,976
+ *     record             374,662   1,534,976
  *
  * A file is a row of blocks of GIGORCHID_BLOCK_BYTES bytes: 128 words, each with its low byte first. Word 0 is the file's kind (1 corridor, 2
- * demands, 3 record, 4 plan), word 1 the block's number from 0, words 2..126 the list's next 125 words, zeros after its end, and word 127
+ * or 5 demands, 3 record, 4 plan), word 1 the block's number from 0, words 2..126 the list's next 125 words, zeros after its end, and word 127
  * the sum of (2 j + 1) x word j over j = 0..126, modulo 2^32. So N stands in bytes 8..11 of a corridor's file, and K in those of the demands'. */
 #define GIGORCHID_MOST_LINKS 64
 #define GIGORCHID_MOST_STEPS 1440
 #define GIGORCHID_CORRIDOR_WORDS(n) (1 + (GIGORCHID_CAST(size_t, n) + 1) * 9)
 #define GIGORCHID_DEMANDS_WORDS(n, k) (1 + GIGORCHID_CAST(size_t, k) * (GIGORCHID_CAST(size_t, n) + 1) * 2)
+#define GIGORCHID_DEMANDS_5_WORDS(n, k) (1 + GIGORCHID_CAST(size_t, k) * (GIGORCHID_CAST(size_t, n) * 2 + 3))
 #define GIGORCHID_PLAN_WORDS(n, k) (GIGORCHID_CAST(size_t, k) * (GIGORCHID_CAST(size_t, n) + 1) * 2)
 #define GIGORCHID_RECORD_WORDS(n, k) ((GIGORCHID_CAST(size_t, k) + 1) * (GIGORCHID_CAST(size_t, n) + 1) * 4 + 2)
 #define GIGORCHID_BLOCK_BYTES 512
 #define GIGORCHID_FILE_BYTES(words) ((GIGORCHID_CAST(size_t, words) + 124) / 125 * GIGORCHID_BLOCK_BYTES)
 
+/* How many words the demands in a file have, told N and K: those of the kind that its first word tells. */
+static inline size_t gigorchid_demands_words(uint32_t n, uint32_t k, const uint8_t *file, size_t bytes)
+{
+    if (bytes >= 4 && file[0] == 5 && file[1] == 0 && file[2] == 0 && file[3] == 0)
+        return GIGORCHID_DEMANDS_5_WORDS(n, k);
+    return GIGORCHID_DEMANDS_WORDS(n, k);
+}
+
 /* The parts of an answer. The row is the step of 5, 6 and 8 to 12, the state of 7, the block of 15 to 18, and 0 elsewhere; the node is that
- * of 2 to 12, and 0 elsewhere. 8 to 10 speak of state row, 11 and 12 of state row + 1; 9 of link node and link node + 1. */
+ * of 2 to 12, and 0 elsewhere. 8 to 10 speak of state row, 11 and 12 of state row + 1; 9 of link node and link node + 1, at
+ * node N of link N and what lies past it. */
 #define GIGORCHID_REFUSAL(answer) (GIGORCHID_CAST(uint32_t, answer) & 255)
 #define GIGORCHID_NODE(answer) (GIGORCHID_CAST(uint32_t, answer) >> 8 & 255)
 #define GIGORCHID_ROW(answer) (GIGORCHID_CAST(uint32_t, answer) >> 16)
@@ -120,20 +136,20 @@ extern "C" {
  * row, then node; then 8 to 12 by step, node and number; 13 last. The readers, below, say the order of 14 to 18. */
 #define GIGORCHID_REFUSALS(ENTRY)                                                                                                                  \
     ENTRY(GIGORCHID_ACCEPTED, 0, "accepted")                                                                                                       \
-    ENTRY(GIGORCHID_BAD_LENGTH, 1, "N or K is out of range or not the list's own, or a count is not the one that N and K ask for")                 \
+    ENTRY(GIGORCHID_BAD_LENGTH, 1, "N or K is out of range or not the list's own, or a count is not the one that N, K and the kind ask for")       \
     ENTRY(GIGORCHID_BAD_LINK, 2, "the node's F, V, W or J is out of range, or not zero at node 0")                                                 \
     ENTRY(GIGORCHID_BAD_RAMP, 3, "the node's identifier is zero or that of an earlier node, or its C or L is out of range, or not zero at node N") \
     ENTRY(GIGORCHID_BAD_START, 4, "the node starts with n above J or with l above L")                                                              \
-    ENTRY(GIGORCHID_BAD_DEMAND, 5, "Q or b is above 65,536, or not zero where it is fixed: b at node 0, both at node N")                           \
+    ENTRY(GIGORCHID_BAD_DEMAND, 5, "Q, b or, at node N, P is above 65,536, or not zero where it is fixed: b at node 0, Q and b at node N")         \
     ENTRY(GIGORCHID_BAD_PLAN, 6, "the plan's rate is above C, or its limit above V")                                                               \
     ENTRY(GIGORCHID_BAD_FIXED_WORD, 7, "n or l of state 0 is not the corridor's start, or a word fixed at zero is not zero")                       \
     ENTRY(GIGORCHID_BAD_SENDING, 8, "f is more than the link can send at full speed: above n x V / 65,536 or above F")                             \
-    ENTRY(GIGORCHID_BAD_MERGE, 9, "T(f) + r is more than the next link can take in: above S")                                                      \
+    ENTRY(GIGORCHID_BAD_MERGE, 9, "T(f) + r is more than the next link can take in, at node N more than may leave: above S")                       \
     ENTRY(GIGORCHID_BAD_RAMP_FLOW, 10, "r is above l or above C")                                                                                  \
     ENTRY(GIGORCHID_BAD_NEXT_STATE, 11, "n or l of the next state is not what rule 6 gives")                                                       \
     ENTRY(GIGORCHID_BAD_QUEUE, 12, "l of the next state is above L")                                                                               \
     ENTRY(GIGORCHID_BAD_COST, 13, "the cost is not the sum of all n and l over states 1..K")                                                       \
-    ENTRY(GIGORCHID_BAD_FILE_LENGTH, 14, "the file has not the bytes that N and K ask for")                                                        \
+    ENTRY(GIGORCHID_BAD_FILE_LENGTH, 14, "the file has not the bytes that N, K and its kind ask for")                                               \
     ENTRY(GIGORCHID_BAD_CHECK_WORD, 15, "the block's check word is wrong")                                                                         \
     ENTRY(GIGORCHID_BAD_KIND, 16, "the block's kind is not that of the file asked for")                                                            \
     ENTRY(GIGORCHID_BAD_BLOCK_NUMBER, 17, "the block's number is not its place in the file")                                                       \
@@ -222,9 +238,10 @@ uint32_t gigorchid_normal_nodes(const struct gigorchid_node *corridor, size_t no
 
 /* ---- files to words and back, told N and K ----
  *
- * A reader answers 1 for a bad N or K or a wrong count of words, then 14, then 15, 16, 17 block by block, then 18, then 1 if the file's own N or
- * K, the first word of a corridor and of demands, is another. A writer answers 1 for a bad N or K, a wrong count of bytes or words, or a list
- * whose own N or K is another; it tests no other word. N and K are tested for 1..64 and 1..1,440 even where a list does not depend on them. */
+ * A reader answers 1 for a bad N or K or a wrong count of words, which for demands is any but that of the file's kind; then 14, then 15, 16,
+ * 17 block by block, then 18, then 1 if the file's own N or K, the first word of a corridor and of demands, is another. A writer answers 1 for
+ * a bad N or K, a wrong count of bytes or words, or a list whose own N or K is another; it tests no other word. N and K are tested for 1..64
+ * and 1..1,440 even where a list does not depend on them. */
 uint32_t gigorchid_read_corridor(uint32_t n, uint32_t k, const uint8_t *file, size_t bytes, uint32_t *words, size_t count);
 uint32_t gigorchid_read_demands(uint32_t n, uint32_t k, const uint8_t *file, size_t bytes, uint32_t *words, size_t count);
 uint32_t gigorchid_read_record(uint32_t n, uint32_t k, const uint8_t *file, size_t bytes, uint32_t *words, size_t count);

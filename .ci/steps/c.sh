@@ -25,22 +25,25 @@ gcc -std=c11 "${checks[@]}" "${strict[@]}" examples/host.c $library -o "$work/ch
 "$work/calls_checked"
 
 b=examples/b
-# run EXPECTED-STATUS CASE COMMAND..: what the host prints for a case is what examples/expected has
+# run EXPECTED-STATUS DEMANDS CASE COMMAND..: what the host prints for a case is what examples/expected has
 run() {
-    local want=$1 case=$2 got=0
-    shift 2
-    "$@" 2 1 $b/corridor.blocks $b/demands.blocks "$b/$case.blocks" "$work/plan.blocks" > "$work/out" || got=$?
+    local want=$1 demands=$2 case=$3 got=0
+    shift 3
+    "$@" 2 1 $b/corridor.blocks "$b/$demands.blocks" "$b/$case.blocks" "$work/plan.blocks" > "$work/out" || got=$?
     [ "$got" = "$want" ] || { echo "$case: status $got, not $want"; cat "$work/out"; exit 1; }
     diff "examples/expected/$case.txt" "$work/out"
 }
 tools=("$work/host" "$work/checked")
 for tool in "${tools[@]}"; do
-    for case in case1 case3 case4 case6; do run 0 $case "$tool"; done
-    run 1 case5 "$tool"
+    for case in case1 case3 case4 case6; do run 0 demands $case "$tool"; done
+    run 1 demands case5 "$tool"
+    for case in case11 case12; do run 0 downstream $case "$tool"; done
+    run 1 downstream case13 "$tool"
 done
 valgrind --quiet --error-exitcode=9 "$work/calls"
-run 0 case1 valgrind --quiet --error-exitcode=9 "$work/host"
-run 1 case5 valgrind --quiet --error-exitcode=9 "$work/host"
+run 0 demands case1 valgrind --quiet --error-exitcode=9 "$work/host"
+run 1 demands case5 valgrind --quiet --error-exitcode=9 "$work/host"
+run 0 downstream case12 valgrind --quiet --error-exitcode=9 "$work/host"
 
 # refused TEXT N K CORRIDOR DEMANDS RECORD: the host says so
 refused() {
