@@ -3,7 +3,7 @@
 
 use crate::model::files::file_bytes;
 use crate::model::lists::{corridor_of, Node, NODE_WORDS};
-use crate::model::{self, answer, Kind, Rules};
+use crate::model::{self, answer, List, Rules};
 use crate::stack::{stack_left, SMALL_STACK};
 
 /// The calls on word lists. Each answers row × 65,536 + node × 256 + number, 0 for accepted.
@@ -50,8 +50,8 @@ pub trait NodeCalls: Sync {
 
 /// The calls on block files; `files` are corridor, demands and record.
 pub trait FileCalls: Sync {
-    fn read(&self, kind: Kind, n: u32, k: u32, file: &[u8], words: &mut [u32]) -> u32;
-    fn write(&self, kind: Kind, n: u32, k: u32, words: &[u32], file: &mut [u8]) -> u32;
+    fn read(&self, list: List, n: u32, k: u32, file: &[u8], words: &mut [u32]) -> u32;
+    fn write(&self, list: List, n: u32, k: u32, words: &[u32], file: &mut [u8]) -> u32;
     fn check_files(&self, n: u32, k: u32, files: [&[u8]; 3]) -> u32;
     fn convert_files(&self, n: u32, k: u32, files: [&[u8]; 3], plan_file: &mut [u8]) -> u32;
 }
@@ -124,12 +124,12 @@ impl<R: Rules> NodeCalls for R {
 }
 
 impl<R: Rules> FileCalls for R {
-    fn read(&self, kind: Kind, n: u32, k: u32, file: &[u8], words: &mut [u32]) -> u32 {
-        answer(model::read::<R>(kind, n, k, file, words))
+    fn read(&self, list: List, n: u32, k: u32, file: &[u8], words: &mut [u32]) -> u32 {
+        answer(model::read::<R>(list, n, k, file, words))
     }
 
-    fn write(&self, kind: Kind, n: u32, k: u32, words: &[u32], file: &mut [u8]) -> u32 {
-        answer(model::write::<R>(kind, n, k, words, file))
+    fn write(&self, list: List, n: u32, k: u32, words: &[u32], file: &mut [u8]) -> u32 {
+        answer(model::write::<R>(list, n, k, words, file))
     }
 
     fn check_files(&self, n: u32, k: u32, files: [&[u8]; 3]) -> u32 {
@@ -193,9 +193,9 @@ impl<C: FileCalls> ByFiles<C> {
             return Err(1);
         };
         let mut files = lists.map(|words| vec![0; file_bytes(words.len())]);
-        let kinds = [Kind::Corridor, Kind::Demands, Kind::Record];
-        for ((kind, words), file) in kinds.into_iter().zip(lists).zip(&mut files) {
-            match self.0.write(kind, n, k, words, file) {
+        let names = [List::Corridor, List::Demands, List::Record];
+        for ((list, words), file) in names.into_iter().zip(lists).zip(&mut files) {
+            match self.0.write(list, n, k, words, file) {
                 0 => {}
                 refused => return Err(refused),
             }
@@ -223,7 +223,7 @@ impl<C: FileCalls + WordCalls> WordCalls for ByFiles<C> {
         };
         let mut plan_file = vec![0; file_bytes(plan.len())];
         match self.0.convert_files(n, k, [&a, &b, &c], &mut plan_file) {
-            0 => self.0.read(Kind::Plan, n, k, &plan_file, plan),
+            0 => self.0.read(List::Plan, n, k, &plan_file, plan),
             refused => refused,
         }
     }
@@ -282,12 +282,12 @@ impl<C: WordCalls> WordCalls for OnSmallStack<C> {
 }
 
 impl<C: FileCalls> FileCalls for OnSmallStack<C> {
-    fn read(&self, kind: Kind, n: u32, k: u32, file: &[u8], words: &mut [u32]) -> u32 {
-        on_small_stack(|| self.0.read(kind, n, k, file, words))
+    fn read(&self, list: List, n: u32, k: u32, file: &[u8], words: &mut [u32]) -> u32 {
+        on_small_stack(|| self.0.read(list, n, k, file, words))
     }
 
-    fn write(&self, kind: Kind, n: u32, k: u32, words: &[u32], file: &mut [u8]) -> u32 {
-        on_small_stack(|| self.0.write(kind, n, k, words, file))
+    fn write(&self, list: List, n: u32, k: u32, words: &[u32], file: &mut [u8]) -> u32 {
+        on_small_stack(|| self.0.write(list, n, k, words, file))
     }
 
     fn check_files(&self, n: u32, k: u32, files: [&[u8]; 3]) -> u32 {

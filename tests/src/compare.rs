@@ -3,11 +3,12 @@
 
 use crate::calls::{FileCalls, Program, WordCalls};
 use crate::limits::LimitCase;
-use crate::model::program::MOST_BYTES;
-use crate::model::Input;
+use crate::model::program::{three_files, MOST_BYTES};
+use crate::model::{Input, Quick, Size};
 use crate::random::files::{FileCase, ThreeFiles};
 use crate::random::sound::WordCase;
 use crate::random::Random;
+use crate::tally::kinds::{kind_of_demands, CALLS_BY_KIND, CALLS_ON_FILES_BY_KIND};
 use crate::tally::Tally;
 
 /// Words or bytes before and after each lent list.
@@ -98,17 +99,23 @@ pub fn compare_words(
     let (answer, _) = same_call("check", sides, [0, 0], |side, _: &mut [u32], _| {
         side.check(corridor, demands, record)
     })?;
-    tally.answer("check", answer);
+    tally.answer_on_lists(1, case.demands_kind, answer);
+    if let Ok(input) = Input::new(corridor, demands) {
+        tally.downstream_refusals(&input, answer);
+    }
     let lengths = [case.lent_plan, 0];
-    let (answer, [converted, _]) = same_call("convert", sides, lengths, |side, out, _| {
+    let (answer, [mut converted, _]) = same_call("convert", sides, lengths, |side, out, _| {
         side.convert(corridor, demands, record, out)
     })?;
-    tally_plan("convert", case, answer, converted, tally);
+    tally.answer_on_lists(2, case.demands_kind, answer);
+    tally_settings(case, answer, record, converted.list(), tally);
     let lengths = [case.lent_record, case.lent_plan];
-    let (answer, [_, normal]) = same_call("normal", sides, lengths, |side, work, out| {
-        side.normal(corridor, demands, plan, work, out)
-    })?;
-    tally_plan("normal", case, answer, normal, tally);
+    let (answer, [mut work, mut normal]) =
+        same_call("normal", sides, lengths, |side, work, out| {
+            side.normal(corridor, demands, plan, work, out)
+        })?;
+    tally.answer_on_lists(3, case.demands_kind, answer);
+    tally_settings(case, answer, work.list(), normal.list(), tally);
     Ok(())
 }
 
@@ -122,32 +129,27 @@ fn compare_simulate(
     let (answer, [mut record, _]) = same_call("simulate", sides, lengths, |side, out, _| {
         side.simulate(corridor, demands, plan, out)
     })?;
-    tally.answer("simulate", answer);
+    tally.answer_on_lists(0, case.demands_kind, answer);
     if let (0, Ok(input)) = (answer, Input::new(corridor, demands)) {
         tally.happenings(&input, plan, record.list());
     }
     Ok(())
 }
 
-/// Counts an answer and, if it is 0, the settings of the plan that came with it.
-fn tally_plan(
-    call: &'static str,
-    case: &WordCase,
-    answer: u32,
-    mut plan: Lent<u32>,
-    tally: &mut Tally,
-) {
-    tally.answer(call, answer);
+/// Counts the settings of the plan that came with an answer of 0.
+fn tally_settings(case: &WordCase, answer: u32, record: &[u32], plan: &[u32], tally: &mut Tally) {
     if let (0, Ok(input)) = (answer, Input::new(&case.corridor, &case.demands)) {
-        tally.settings(&input, plan.list());
+        tally.settings(&input, record, plan);
     }
 }
 
 /// Names of the readers and writers for messages and counts, by kind.
-pub const READERS: [&str; 4] = ["read corridor", "read demands", "read record", "read plan"];
-pub const WRITERS: [&str; 4] = ["write corridor", "write demands", "write record", "write plan"];
+pub const READERS: [&str; 5] =
+    ["read corridor", "read demands", "read record", "read plan", "read demands of kind 5"];
+pub const WRITERS: [&str; 5] =
+    ["write corridor", "write demands", "write record", "write plan", "write demands of kind 5"];
 
-/// The reader and the writer of one kind.
+/// The reader and the writer of one list.
 pub fn compare_file(
     sides: [&dyn FileCalls; 2],
     case: &FileCase,
@@ -156,11 +158,12 @@ pub fn compare_file(
     let FileCase { kind, n, k, file, words, lent_words, lent_file } = case;
     let (reader, writer) = (READERS[*kind as usize - 1], WRITERS[*kind as usize - 1]);
     let (answer, _) = same_call(reader, sides, [*lent_words, 0], |side, out: &mut [u32], _| {
-        side.read(*kind, *n, *k, file, out)
+        side.read(kind.list(), *n, *k, file, out)
     })?;
     tally.answer(reader, answer);
+    tally.mixed_kinds(case);
     let (answer, _) = same_call(writer, sides, [*lent_file, 0], |side, out: &mut [u8], _| {
-        side.write(*kind, *n, *k, words, out)
+        side.write(kind.list(), *n, *k, words, out)
     })?;
     tally.answer(writer, answer);
     Ok(())
@@ -176,15 +179,21 @@ pub fn compare_three(
     tally: &mut Tally,
 ) -> Result<(), String> {
     let (n, k) = (case.n, case.k);
+    let by_kind = CALLS_ON_FILES_BY_KIND[kind_of_demands(&case.demands)];
     let (answer, _) = same_call("check files", sides, [0, 0], |side, _: &mut [u8], _| {
         side.check_files(n, k, case.files())
     })?;
     tally.answer("check files", answer);
+    tally.answer(by_kind[0], answer);
+    if let Ok(size) = Size::new(n, k) {
+        tally.downstream_refusals_of_files(size, case.files(), answer);
+    }
     let lengths = [case.lent_plan_file, 0];
     let (answer, _) = same_call("convert files", sides, lengths, |side, out: &mut [u8], _| {
         side.convert_files(n, k, case.files(), out)
     })?;
     tally.answer("convert files", answer);
+    tally.answer(by_kind[1], answer);
     Ok(())
 }
 
@@ -200,11 +209,27 @@ pub fn compare_program(
         return Err(format!("normal: prints\n{}and\n{}", texts[0], texts[1]));
     }
     let text = String::from_utf8_lossy(&left);
-    let number = text.strip_prefix("REFUSED ").and_then(|rest| rest.split(' ').next());
-    tally.add("normal", number.map_or(0, |digits| digits.parse().unwrap_or(u32::MAX)), 1);
+    let answer = printed_answer(&text);
+    tally.answer("normal", answer);
+    if let Ok((size, files)) = three_files::<Quick>(input) {
+        tally.answer(CALLS_BY_KIND[kind_of_demands(files[1])][3], answer);
+        tally.downstream_refusals_of_files(size, files, answer);
+    }
     tally.add("held lines", 0, text.lines().filter(|line| line.ends_with(" H")).count() as u64);
     tally.add("full lines", 0, text.lines().filter(|line| line.ends_with(" F")).count() as u64);
     Ok(())
+}
+
+/// What was printed as the C host's one number, 0 for a plan.
+fn printed_answer(text: &str) -> u32 {
+    let Some(refusal) = text.strip_prefix("REFUSED ") else {
+        return 0;
+    };
+    let words: Vec<u32> = refusal.split_whitespace().map_while(|word| word.parse().ok()).collect();
+    match words[..] {
+        [number, row, node] => row * 65_536 + node * 256 + number,
+        _ => u32::MAX,
+    }
 }
 
 /// Runs a comparison on a case at a limit of N or K: the calls that it makes must all accept within
@@ -228,9 +253,11 @@ pub fn compare_limit_on_words(sides: [&dyn WordCalls; 2], case: &LimitCase) -> R
 
 /// Each reader, each writer and the two calls on files at a limit of N or K.
 pub fn compare_limit_on_files(sides: [&dyn FileCalls; 2], case: &LimitCase) -> Result<(), String> {
-    let calls = [&READERS[..], &WRITERS, &CALLS_ON_FILES].concat();
-    compare_limit(case, &calls, |tally| {
-        case.file_cases().iter().try_for_each(|file| compare_file(sides, file, tally))?;
+    let files = case.file_cases();
+    let kinds = files.iter().map(|file| file.kind as usize - 1);
+    let calls = kinds.flat_map(|kind| [READERS[kind], WRITERS[kind]]).chain(CALLS_ON_FILES);
+    compare_limit(case, &calls.collect::<Vec<_>>(), |tally| {
+        files.iter().try_for_each(|file| compare_file(sides, file, tally))?;
         compare_three(sides, &case.three_files(), tally)
     })
 }

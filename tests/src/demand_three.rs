@@ -5,9 +5,10 @@
 use crate::calls::WordCalls;
 use crate::model::lists::{corridor_of, Node};
 use crate::model::simulate::entry;
-use crate::model::{check, Input, Quick, Rules, Size};
+use crate::model::{check, Input, Kind, Quick, Rules, Size};
 use crate::random::records::record_of_flows;
 use crate::random::Random;
+use crate::tally::kinds::WHERE_LESS_MAY_LEAVE;
 use crate::tally::{Tally, SETTINGS};
 use std::collections::{BTreeMap, BTreeSet};
 
@@ -64,7 +65,8 @@ fn tiny_node(random: &mut Random, i: usize, size: Size, links: Links, most: u64)
     }
 }
 
-fn tiny(random: &mut Random, size: Size, links: Links, most: u64) -> Tiny {
+/// Demands of kind 5 have words that often bind.
+fn tiny(random: &mut Random, size: Size, demands_kind: Kind, (links, most): (Links, u64)) -> Tiny {
     let all = 0..size.nodes();
     let nodes: Vec<Node> = all.map(|i| tiny_node(random, i, size, links, most)).collect();
     let mut demands = vec![size.steps as u32];
@@ -74,6 +76,9 @@ fn tiny(random: &mut Random, size: Size, links: Links, most: u64) -> Tiny {
             let split = random.pick(&[0, 1, 20_000, 32_768, 40_000, 65_536]);
             demands.extend([arrivals, split * u32::from(i > 0 && i < size.links)]);
         }
+    }
+    if demands_kind == Kind::Downstream {
+        demands.extend((0..size.steps).map(|_| random.within(0, most) as u32));
     }
     Tiny { corridor: corridor_of(&nodes), demands }
 }
@@ -148,6 +153,16 @@ impl<'a> Asked<'a> {
         record
     }
 
+    /// The demands of step k as those of a corridor of one step.
+    fn demands_of_step(&self, k: usize) -> Vec<u32> {
+        let size = self.input.size;
+        let row = size.demand_place(k, 0)..size.demand_place(k + 1, 0);
+        let mut demands = vec![1];
+        demands.extend(&self.demands[row]);
+        demands.extend(self.demands.get(size.downstream_place(k)));
+        demands
+    }
+
     /// f and r of node i at step k with that rate and V: the same node in a corridor of one step
     /// that starts in the record's state k.
     fn at_full_speed(&self, record: &[u32], (k, i): (usize, usize), rate: u32) -> (u32, u32) {
@@ -157,8 +172,7 @@ impl<'a> Asked<'a> {
             corridor[1 + 9 * j + 7..1 + 9 * j + 9].copy_from_slice(&record[now..now + 2]);
         }
         let one_step = Size { steps: 1, ..self.input.size };
-        let row = 1 + self.input.size.plan_place(k, 0)..1 + self.input.size.plan_place(k + 1, 0);
-        let demands = [&[1], &self.demands[row]].concat();
+        let demands = self.demands_of_step(k);
         let mut plan = vec![0; one_step.plan()];
         (plan[2 * i], plan[2 * i + 1]) = (rate, self.input.node(i).full_speed);
         let mut record = vec![7; one_step.record()];
@@ -251,7 +265,7 @@ fn try_corridor(asked: &Asked, tally: &mut Tally) -> [u64; 2] {
     let mut counts = [0; 2];
     for (record, form) in &records {
         assert_plan(asked, record, form);
-        tally.settings(input, form);
+        tally.settings(input, record, form);
         for place in 0..record.len() {
             for by in [1, u32::MAX] {
                 let mut other = record.clone();
@@ -270,17 +284,20 @@ fn try_corridor(asked: &Asked, tally: &mut Tally) -> [u64; 2] {
     counts
 }
 
-fn try_corridors(
-    calls: &dyn WordCalls,
-    seed: u64,
+/// A number of corridors of one size, one kind of demands and one kind of links.
+struct Batch {
     count: usize,
     size: Size,
-    (links, most): (Links, u64),
-) {
+    demands_kind: Kind,
+    links: (Links, u64),
+}
+
+fn try_corridors(calls: &dyn WordCalls, seed: u64, batch: Batch) -> Tally {
+    let Batch { count, size, demands_kind, links } = batch;
     let mut random = Random::new(seed);
     let mut tally = Tally::default();
     for _ in 0..count {
-        let tiny = tiny(&mut random, size, links, most);
+        let tiny = tiny(&mut random, size, demands_kind, links);
         let [accepted, refused] = try_corridor(&Asked::new(calls, &tiny), &mut tally);
         tally.add("proposals accepted", 0, accepted);
         tally.add("proposals refused", 0, refused);
@@ -293,16 +310,31 @@ fn try_corridors(
     for name in SETTINGS.into_iter().filter(|name| inner || !name.contains("inner")) {
         tally.expect(name, &[0], count as u64 / 4);
     }
+    tally
 }
 
-/// Demand 3 of a side, on corridors of all these sizes made from that seed, one in `part` of them.
+/// Demand 3 of a side, on corridors of all these sizes made from that seed, one in `part` of them,
+/// as many with demands of kind 5 as with those of kind 2.
 pub fn assert_demand_three(calls: &dyn WordCalls, seed: u64, part: usize) {
-    let size = |links, steps| Size { links, steps };
-    try_corridors(calls, seed + 1, 500 / part, size(1, 1), (Links::Slow, 4));
-    try_corridors(calls, seed + 2, 100 / part, size(1, 2), (Links::Slow, 4));
-    try_corridors(calls, seed + 3, 1_000 / part, size(2, 1), (Links::Slow, 4));
-    try_corridors(calls, seed + 4, 60 / part, size(2, 2), (Links::Slow, 2));
-    try_corridors(calls, seed + 5, 300 / part, size(3, 1), (Links::Slow, 2));
-    try_corridors(calls, seed + 6, 1_000 / part, size(2, 1), (Links::Short, 4));
-    try_corridors(calls, seed + 7, 300 / part, size(3, 1), (Links::Short, 2));
+    let batches = [
+        (500, (1, 1), (Links::Slow, 4)),
+        (100, (1, 2), (Links::Slow, 4)),
+        (1_000, (2, 1), (Links::Slow, 4)),
+        (60, (2, 2), (Links::Slow, 2)),
+        (300, (3, 1), (Links::Slow, 2)),
+        (1_000, (2, 1), (Links::Short, 4)),
+        (300, (3, 1), (Links::Short, 2)),
+    ];
+    let mut less_may_leave = [0; 2];
+    for (demands_kind, first) in [(Kind::Demands, seed + 1), (Kind::Downstream, seed + 11)] {
+        for (seed, (count, (n, k), links)) in (first..).zip(batches) {
+            let (count, size) = (count / part, Size { links: n, steps: k });
+            let tally = try_corridors(calls, seed, Batch { count, size, demands_kind, links });
+            for (count, name) in less_may_leave.iter_mut().zip(WHERE_LESS_MAY_LEAVE) {
+                *count += tally.count(name, 0);
+            }
+        }
+    }
+    let enough = less_may_leave.iter().all(|&count| count > 1_000 / part as u64);
+    assert!(enough, "full and held where less may leave: {less_may_leave:?}");
 }

@@ -1,11 +1,15 @@
-//! The worked cases of document 01 and the examples of its refusal table, as tests of any side:
-//! the model, and the host once there is one.
+//! The worked cases of document 01, the examples of its refusal table and, in a module of their own,
+//! the like for what may leave link N, as tests of any side: the model, and the host once there is
+//! one.
+
+pub mod downstream;
 
 use crate::calls::{FileCalls, Program, WordCalls};
 use crate::model::files::{words_of, CHECK};
-use crate::model::{Kind, Size};
+use crate::model::{Kind, List, Size};
 use crate::random::files::{change_block, file_of, ThreeFiles};
 use crate::random::sound::WordCase;
+use downstream::{b_downstream, downstream_proposed};
 
 /// Places in B's lists: the words of its nodes, and those of node 1 in the demands.
 const NODE_1: usize = 10;
@@ -23,6 +27,7 @@ const SPLIT_1: usize = 4;
 /// B, the plan of case 1 and its record.
 pub fn b() -> WordCase {
     WordCase {
+        demands_kind: Kind::Demands,
         corridor: [
             &[2][..],
             &[10, 0, 0, 0, 0, 100, 1_000, 0, 0],
@@ -96,6 +101,9 @@ pub fn assert_word_examples(calls: &dyn WordCalls) {
     assert_input_refusals(calls);
     assert_record_refusals(calls);
     assert_queue_refusal_of_normal_form(calls);
+    downstream::assert_cases(calls);
+    downstream::assert_refusals(calls);
+    downstream::assert_word_in_its_step(calls);
 }
 
 /// Case 1, and that rates 60 and 50 have one record and so one normal form.
@@ -247,6 +255,7 @@ pub fn assert_file_examples(calls: &dyn FileCalls) {
     assert_check_word(calls);
     assert_file_refusals(calls);
     assert_calls_on_files(calls);
+    downstream::assert_demands_of_both_kinds(calls);
 }
 
 /// Case 10: an otherwise zero block of kind 1 and number 1 has check 4. Such is the second block
@@ -255,7 +264,7 @@ fn assert_check_word(calls: &dyn FileCalls) {
     let mut words = vec![0; 127];
     words[0] = 13;
     let mut file = vec![7; 1_024];
-    assert_eq!(calls.write(Kind::Corridor, 13, 1, &words, &mut file), 0);
+    assert_eq!(calls.write(List::Corridor, 13, 1, &words, &mut file), 0);
     let second = words_of(&file[512..]);
     assert_eq!((second[0], second[1], second[CHECK]), (1, 1, 4));
 }
@@ -283,15 +292,22 @@ fn assert_file_refusals(calls: &dyn FileCalls) {
     ];
     for (file, answer) in rows {
         let mut read = vec![7; 127];
-        assert_eq!(calls.read(Kind::Corridor, 13, 1, &file, &mut read), answer);
+        assert_eq!(calls.read(List::Corridor, 13, 1, &file, &mut read), answer);
         assert_eq!(read, if answer == 0 { words.clone() } else { vec![7; 127] });
     }
 }
 
-/// Cases 1, 2 and 5 through the C host's calls on files.
+/// Cases 1, 2, 5 and 11 to 13 through the C host's calls on files.
 fn assert_calls_on_files(calls: &dyn FileCalls) {
-    let plan_file = file_of(Kind::Plan, &[0, 0, 50, 32_768, 0, 32_768]);
-    let rows = [(b(), 0, plan_file), (proposed(100, 26), refused(9, 0, 1), vec![7; 512])];
+    let full = file_of(Kind::Plan, &[0, 0, 50, 32_768, 0, 32_768]);
+    let held = file_of(Kind::Plan, &[0, 0, 50, 32_768, 0, 13_108]);
+    let rows = [
+        (b(), 0, full.clone()),
+        (proposed(100, 26), refused(9, 0, 1), vec![7; 512]),
+        (b_downstream(), 0, full),
+        (downstream_proposed(40), 0, held),
+        (downstream_proposed(71), refused(9, 0, 2), vec![7; 512]),
+    ];
     for (case, answer, plan_file) in rows {
         let three = ThreeFiles::of_case(b_size(), &case);
         let mut lent = vec![7; 512];
@@ -307,10 +323,15 @@ pub fn assert_program_examples(program: &dyn Program) {
     let sound = input(&b());
     let held = "PLAN 1 3 375\n0 10 0 0 F\n0 20 50 19661 H\n0 30 0 32768 F\n";
     let full = "PLAN 1 3 370\n0 10 0 0 F\n0 20 50 32768 F\n0 30 0 32768 F\n";
+    let full_downstream = "PLAN 1 3 400\n0 10 0 0 F\n0 20 50 32768 F\n0 30 0 32768 F\n";
+    let held_downstream = "PLAN 1 3 430\n0 10 0 0 F\n0 20 50 32768 F\n0 30 0 13108 H\n";
     let rows = [
         (sound.clone(), full),
         (input(&proposed(60, 50)), held),
         (input(&proposed(100, 26)), "REFUSED 9 0 1\n"),
+        (input(&b_downstream()), full_downstream),
+        (input(&downstream_proposed(40)), held_downstream),
+        (input(&downstream_proposed(71)), "REFUSED 9 0 2\n"),
         (sound[..1_535].to_vec(), "REFUSED 14 0 0\n"),
         (vec![], "REFUSED 14 0 0\n"),
         (vec![0; 12], "REFUSED 1 0 0\n"),

@@ -1,9 +1,10 @@
-//! Independent tests of Gigorchid: a model written from document 01 alone, seeded inputs,
+//! Independent tests of Gigorchid: a model written from documents 01 and 02 alone, seeded inputs,
 //! and comparisons of every exported call with the model, word for word.
 
 pub mod calls;
 pub mod compare;
 pub mod demand_three;
+pub mod downstream;
 pub mod examples;
 #[cfg(feature = "host")]
 pub mod host;

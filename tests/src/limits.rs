@@ -1,9 +1,8 @@
 //! Cases at the limits of document 01, the same at every run: the longest lists with the greatest
 //! amounts, and N and K on either side of their limits while all else is sound.
 
-use crate::model::files::KINDS;
 use crate::model::lists::{corridor_of, Node};
-use crate::model::{Input, Size, MOST_QUEUE_LIMIT, WHOLE};
+use crate::model::{Input, Kind, List, Size, MOST_QUEUE_LIMIT, WHOLE};
 use crate::random::files::{FileCase, ThreeFiles};
 use crate::random::records::record_of_plan;
 use crate::random::sound::WordCase;
@@ -12,10 +11,11 @@ use crate::random::sound::WordCase;
 const MOST: u32 = WHOLE as u32;
 
 /// A case of any size, also one beyond the limits, with every amount but the vehicles and queues at
-/// its greatest. With jammed links and full queues
-/// nothing moves but at the end, and every queue passes its limit; with half the vehicles and no
-/// queues products of 2^32 occur and every queue stays within its limit.
-pub fn greatest(size: Size, jammed: bool) -> WordCase {
+/// its greatest. With jammed links and full queues nothing moves but at the end, and every queue
+/// passes its limit; with half the vehicles and no queues products of 2^32 occur and every queue
+/// stays within its limit. With demands of kind 5 an eighth of the most may leave link N in every
+/// other step, and the most of all in those between.
+pub fn greatest(size: Size, demands_kind: Kind, jammed: bool) -> WordCase {
     let nodes: Vec<Node> = (0..size.nodes()).map(|i| greatest_node(size, i, jammed)).collect();
     let mut demands = vec![size.steps as u32];
     let mut plan = vec![];
@@ -27,9 +27,13 @@ pub fn greatest(size: Size, jammed: bool) -> WordCase {
             plan.extend([ramp * MOST, u32::from(i > 0) * MOST]);
         }
     }
+    if demands_kind == Kind::Downstream {
+        demands.extend((0..size.steps).map(|k| [MOST / 8, MOST][k % 2]));
+    }
     let corridor = corridor_of(&nodes);
     let record = record_of_plan(&Input::of_size(size, &corridor, &demands), &plan);
-    WordCase { corridor, demands, plan, record, lent_record: size.record(), lent_plan: size.plan() }
+    let (lent_record, lent_plan) = (size.record(), size.plan());
+    WordCase { demands_kind, corridor, demands, plan, record, lent_record, lent_plan }
 }
 
 fn greatest_node(size: Size, i: usize, jammed: bool) -> Node {
@@ -56,19 +60,18 @@ pub struct LimitCase {
 }
 
 impl LimitCase {
-    fn of_size(size: Size) -> LimitCase {
+    fn of_size(size: Size, demands: Kind) -> LimitCase {
         let (n, k) = (size.links as u32, size.steps as u32);
-        LimitCase { n, k, lists: greatest(size, false) }
+        LimitCase { n, k, lists: greatest(size, demands, false) }
     }
 
     pub fn is_within(&self) -> bool {
         (1..=64).contains(&self.n) && (1..=1_440).contains(&self.k)
     }
 
-    /// What the reader and the writer of each kind take.
+    /// What the reader and the writer of each list take.
     pub fn file_cases(&self) -> Vec<FileCase> {
-        let WordCase { corridor, demands, record, plan, .. } = &self.lists;
-        let lists = KINDS.into_iter().zip([corridor, demands, record, plan]);
+        let lists = self.lists.by_kind().into_iter();
         lists.map(|(kind, words)| FileCase::sound(kind, self.n, self.k, words.clone())).collect()
     }
 
@@ -77,21 +80,34 @@ impl LimitCase {
     }
 }
 
-/// One count on either side of each of its limits, the other at its limits and between them; and
-/// two counts so large that lengths in 32 bits wrap round to small ones.
-pub fn limit_cases() -> impl Iterator<Item = LimitCase> {
+/// One count on either side of each of its limits, the other at its limits and between them.
+fn limit_sizes() -> impl Iterator<Item = Size> {
     let links = [0, 1, 64, 65].into_iter();
     let links = links.flat_map(|links| [1, 7, 1_440].map(|steps| Size { links, steps }));
     let steps = [0, 1, 1_440, 1_441].into_iter();
     let steps = steps.flat_map(|steps| [1, 5, 64].map(|links| Size { links, steps }));
-    links.chain(steps).map(LimitCase::of_size).chain([no_node(), steps_that_wrap_round()])
+    links.chain(steps)
+}
+
+/// Those sizes with demands of either kind; and counts so large that lengths in 32 bits wrap round
+/// to small ones.
+pub fn limit_cases() -> impl Iterator<Item = LimitCase> {
+    let of_kind = |&demands: &Kind| {
+        let cases = limit_sizes().map(move |size| LimitCase::of_size(size, demands));
+        cases.chain([no_node(demands)])
+    };
+    List::Demands.kinds().iter().flat_map(of_kind).chain([steps_that_wrap_round()])
 }
 
 /// N = 2^32 − 1, for which N + 1 nodes are none at all in 32 bits: the lists of no node.
-fn no_node() -> LimitCase {
+fn no_node(demands_kind: Kind) -> LimitCase {
     let lists = WordCase {
+        demands_kind,
         corridor: vec![u32::MAX],
-        demands: vec![1],
+        demands: match demands_kind {
+            Kind::Downstream => vec![1, MOST],
+            _ => vec![1],
+        },
         plan: vec![],
         record: vec![0, 0],
         lent_record: 2,
@@ -100,9 +116,10 @@ fn no_node() -> LimitCase {
     LimitCase { n: u32::MAX, k: 1, lists }
 }
 
-/// K = 2^31, for which every length is in 32 bits that of K = 0.
+/// K = 2^31, for which every length of kind 2's lists is in 32 bits that of K = 0. Kind 5 has no
+/// such K: its length grows by an odd number with each step.
 fn steps_that_wrap_round() -> LimitCase {
-    let mut lists = greatest(Size { links: 5, steps: 0 }, false);
+    let mut lists = greatest(Size { links: 5, steps: 0 }, Kind::Demands, false);
     lists.demands[0] = 1 << 31;
     LimitCase { n: 5, k: 1 << 31, lists }
 }

@@ -1,9 +1,11 @@
-//! The model: document 01 in plain Rust. Each rule and each test of the refusal table is a small
-//! function of `Rules`; `Paper` and `Quick` take them as they stand, wrong variants replace one.
+//! The model: document 01, and what has landed of document 02, in plain Rust. Each rule and each
+//! test of the refusal table is a small function of `Rules`; `Paper` and `Quick` take them as they
+//! stand, wrong variants replace one.
 
 pub mod check;
 pub mod convert;
 pub mod files;
+pub mod kinds;
 pub mod lists;
 pub mod program;
 pub mod rules;
@@ -11,7 +13,8 @@ pub mod simulate;
 
 pub use check::check;
 pub use convert::{convert, normal, Setting};
-pub use files::{check_files, convert_files, read, write, Kind};
+pub use files::{check_files, convert_files, read, write};
+pub use kinds::{Kind, List};
 pub use lists::{Input, Node, Size};
 pub use rules::{NodeStep, Paper, Quick, Rules};
 pub use simulate::simulate;

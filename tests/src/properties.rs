@@ -1,10 +1,12 @@
-//! What document 01 says of every record, every merge, every held limit and every block, stated
-//! over what the calls give back: tests of any side, the model and the host alike.
+//! What document 01 says of every record, every merge, every held limit and every block, and what
+//! document 02 adds of the flow that may leave link N, stated over what the calls give back: tests
+//! of any side, the model and the host alike.
 
 use crate::calls::{FileCalls, WordCalls};
 use crate::compare::Series;
 use crate::examples::refused;
-use crate::model::files::{BLOCK_BYTES, CHECK, KINDS};
+use crate::model::files::{BLOCK_BYTES, CHECK};
+use crate::model::kinds::KINDS;
 use crate::model::lists::{corridor_of, Node};
 use crate::model::simulate::{entry, inflow};
 use crate::model::{check, Input, NodeStep, Paper, Rules, Size, MOST_QUEUE_LIMIT, WHOLE};
@@ -21,8 +23,8 @@ fn simulated(calls: &dyn WordCalls, case: &WordCase) -> Vec<u32> {
     record
 }
 
-/// In every step the vehicles on links and ramps change by arrivals and exits only, and no link
-/// takes in more than it receives or holds more than its jam.
+/// In every step the vehicles on links and ramps change by arrivals and exits only, no link takes in
+/// more than it receives or holds more than its jam, and no more leaves link N than may.
 pub fn assert_vehicles_are_conserved(calls: &dyn WordCalls) {
     let mut random = Random::new(6_000_000);
     for _ in 0..3_000 {
@@ -47,8 +49,8 @@ fn assert_step_conserves(input: &Input, record: &[u32], k: usize) {
         let through = Paper::through(flow, input.split(k, i));
         let last = i == input.size.links;
         stayed_or_left += if last { flow } else { flow - through };
-        let receiving = NodeStep::new::<Paper>(input, now, k, i).receiving;
-        assert!(receiving.is_none_or(|room| through + ramp_flow <= room));
+        let room = NodeStep::new::<Paper>(input, now, k, i).supply;
+        assert!(through + ramp_flow <= room);
         assert!(entry(next, i)[0] <= input.node(i).jam.into());
         assert_eq!(entry(next, i)[0] + flow, entry(now, i)[0] + inflow::<Paper>(input, k, now, i));
     }
@@ -77,7 +79,7 @@ pub fn assert_cost_is_the_sum_over_later_states(calls: &dyn WordCalls) {
 }
 
 /// A node at a step with a ramp as long as any, half of them of capacity 65,536; and, one in four,
-/// node N, which has no ramp and sends whatever it can.
+/// node N, which has no ramp, half of them with demands that let it send whatever it can.
 pub fn long_ramp(random: &mut Random) -> NodeStep {
     let at = NodeStep {
         capacity: random.within(0, WHOLE),
@@ -87,17 +89,18 @@ pub fn long_ramp(random: &mut Random) -> NodeStep {
         queue: random.within(0, 2 * WHOLE),
         arrivals: 0,
         split: random.pick(&[0, WHOLE / 5, WHOLE]),
-        receiving: Some(random.within(0, 2_000)),
+        supply: random.within(0, 2_000),
     };
-    match random.below(4) {
-        0 => NodeStep { ramp_capacity: 0, queue: 0, split: 0, receiving: None, ..at },
-        1 => at,
-        _ => NodeStep { receiving: Some(random.within(0, WHOLE)), ..at },
+    match random.below(8) {
+        0 => NodeStep { ramp_capacity: 0, queue: 0, split: 0, supply: WHOLE, ..at },
+        1 => NodeStep { ramp_capacity: 0, queue: 0, split: 0, ..at },
+        2 | 3 => at,
+        _ => NodeStep { supply: random.within(0, WHOLE), ..at },
     }
 }
 
-/// A corridor of one step in which node 1 is the one given. Where it has a next link, that is link
-/// 2, empty and with just the capacity to be received; otherwise node 1 is node N.
+/// A corridor of one step in which node 1 is the one given. Where it has a ramp, a next link goes on
+/// from there, empty and with just the capacity to be received; otherwise node 1 is node N.
 struct Alone {
     corridor: Vec<u32>,
     demands: Vec<u32>,
@@ -111,7 +114,8 @@ const STATE: usize = 4;
 impl Alone {
     fn new(at: &NodeStep) -> Alone {
         let nothing = Node::from_words(&[0; 9]);
-        let jam = WHOLE as u32;
+        let (jam, supply) = (WHOLE as u32, at.supply as u32);
+        let last = at.ramp_capacity == 0;
         let node = Node {
             identifier: 2,
             capacity: at.capacity as u32,
@@ -119,17 +123,22 @@ impl Alone {
             wave_speed: 1,
             jam,
             ramp_capacity: at.ramp_capacity as u32,
-            queue_limit: if at.receiving.is_some() { MOST_QUEUE_LIMIT } else { 0 },
+            queue_limit: if last { 0 } else { MOST_QUEUE_LIMIT },
             start_vehicles: at.vehicles as u32,
             start_queue: at.queue as u32,
         };
         let mut nodes = vec![Node { identifier: 1, ..nothing }, node];
         let mut demands = vec![1, 0, 0, at.arrivals as u32, at.split as u32];
-        if let Some(room) = at.receiving {
-            let (capacity, wave_speed) = (room as u32, jam);
-            let link = Node { capacity, full_speed: 1, wave_speed, jam, ..nothing };
-            nodes.push(Node { identifier: 3, ..link });
-            demands.extend([0, 0]);
+        match last {
+            // A list of kind 2 counts as 65,536.
+            true if at.supply == WHOLE => {}
+            true => demands.push(supply),
+            false => {
+                let (capacity, wave_speed) = (supply, jam);
+                let link = Node { capacity, full_speed: 1, wave_speed, jam, ..nothing };
+                nodes.push(Node { identifier: 3, ..link });
+                demands.extend([0, 0]);
+            }
         }
         let size = Size { links: nodes.len() - 1, steps: 1 };
         Alone { corridor: corridor_of(&nodes), demands, size }
@@ -169,10 +178,11 @@ pub fn assert_merge_is_close_and_fits(calls: &dyn WordCalls) {
         let offer = at.queue.min(at.ramp_capacity).min(rate);
         let through = |flow: u64| flow - flow * at.split / WHOLE;
         let wanted = through(sending) + offer;
-        let Some(room) = at.receiving.filter(|&room| room < wanted) else {
+        let room = at.supply;
+        if wanted <= room {
             assert_eq!((flow, ramp_flow), (sending, offer));
             continue;
-        };
+        }
         tight += 1;
         assert!(flow * wanted <= sending * room && sending * room < (flow + 1) * wanted);
         assert!(ramp_flow * wanted <= offer * room && offer * room < (ramp_flow + 1) * wanted);
@@ -223,15 +233,15 @@ pub fn assert_files_come_back(calls: &dyn FileCalls) {
     let outcome = series.run(file_case, |case| {
         let FileCase { kind, n, k, file, .. } = case;
         let mut words = vec![7; case.lent_words];
-        if calls.read(*kind, *n, *k, file, &mut words) != 0 {
+        if calls.read(kind.list(), *n, *k, file, &mut words) != 0 {
             return Ok(());
         }
         accepted += 1;
         let mut bytes = vec![7; file.len()];
         let mut again = vec![7; words.len()];
         let answers = [
-            calls.write(*kind, *n, *k, &words, &mut bytes),
-            calls.read(*kind, *n, *k, &bytes, &mut again),
+            calls.write(kind.list(), *n, *k, &words, &mut bytes),
+            calls.read(kind.list(), *n, *k, &bytes, &mut again),
         ];
         match answers == [0, 0] && bytes == *file && again == words {
             true => Ok(()),
@@ -243,26 +253,35 @@ pub fn assert_files_come_back(calls: &dyn FileCalls) {
 }
 
 /// Any change to just one of words 0..126 of a block that the writer wrote is seen by the reader:
-/// 15 at that block.
+/// 15 at that block, or 14 where the file now says that it is of another kind, which has another
+/// number of blocks.
 pub fn assert_check_word_sees_any_one_change(calls: &dyn FileCalls) {
     let mut random = Random::new(9_000_000);
-    let mut changed = 0;
+    let (mut changed, mut changed_kinds) = (0, 0);
     for round in 0..20_000 {
         let kind = KINDS[round % KINDS.len()];
         let size = size(&mut random, 20, 5);
         let (n, k) = (size.links as u32, size.steps as u32);
         let words = any_words(&mut random, kind, size);
         let mut file = vec![7; kind.bytes(size)];
-        assert_eq!(calls.write(kind, n, k, &words, &mut file), 0);
+        assert_eq!(calls.write(kind.list(), n, k, &words, &mut file), 0);
         let block = random.below(file.len() / BLOCK_BYTES);
         let place = BLOCK_BYTES * block + 4 * random.below(CHECK);
         let old = [0, 1, 2, 3].map(|byte| file[place + byte]);
-        let new = random.strange_word(u32::from_le_bytes(old)).to_le_bytes();
+        let strange = random.strange_word(u32::from_le_bytes(old));
+        let new = random.pick(&[strange, strange, 2, 5]).to_le_bytes();
         file[place..place + 4].copy_from_slice(&new);
-        let answer = calls.read(kind, n, k, &file, &mut vec![7; words.len()]);
-        let seen = if new == old { 0 } else { refused(15, block as u32, 0) };
+        let said = kind.list().kind_of_file(&file);
+        let answer = calls.read(kind.list(), n, k, &file, &mut vec![7; said.words(size)]);
+        let seen = match new == old {
+            true => 0,
+            false if said.bytes(size) != file.len() => refused(14, 0, 0),
+            false => refused(15, block as u32, 0),
+        };
         assert_eq!(answer, seen, "{kind:?} {n} {k}, byte {place}: {old:?} and {new:?}");
         changed += u32::from(new != old);
+        changed_kinds += u32::from(said != kind);
     }
     assert!(changed > 10_000, "words changed: {changed}");
+    assert!(changed_kinds > 10, "kinds changed: {changed_kinds}");
 }

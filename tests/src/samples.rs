@@ -1,5 +1,7 @@
-//! The example files: B's corridor and demands, and the records of some of its worked cases.
+//! The example files: B's corridor, its demands of both kinds, and the records of some of its worked
+//! cases.
 
+use crate::examples::downstream::{b_downstream, downstream_proposed};
 use crate::examples::{b, propose};
 use crate::model::Kind;
 use crate::random::files::file_of;
@@ -10,13 +12,18 @@ pub fn folder() -> PathBuf {
     Path::new(env!("CARGO_MANIFEST_DIR")).join("../examples/b")
 }
 
-/// Name and bytes of each. Case 1's record comes from its plan; the others propose f and r of node 1.
+/// Name and bytes of each. The records of cases 1 and 11 come from their plan, 3 to 6 propose f and
+/// r of node 1, 12 and 13 propose f of node 2.
 pub fn files() -> Vec<(&'static str, Vec<u8>)> {
-    let case = b();
+    let (case, downstream) = (b(), b_downstream());
     let mut files = vec![
         ("corridor.blocks", file_of(Kind::Corridor, &case.corridor)),
         ("demands.blocks", file_of(Kind::Demands, &case.demands)),
         ("case1.blocks", file_of(Kind::Record, &case.record)),
+        ("downstream.blocks", file_of(Kind::Downstream, &downstream.demands)),
+        ("case11.blocks", file_of(Kind::Record, &downstream.record)),
+        ("case12.blocks", file_of(Kind::Record, &downstream_proposed(40).record)),
+        ("case13.blocks", file_of(Kind::Record, &downstream_proposed(71).record)),
     ];
     let proposals = [
         ("case3.blocks", 60, 50),
@@ -30,4 +37,16 @@ pub fn files() -> Vec<(&'static str, Vec<u8>)> {
         files.push((name, file_of(Kind::Record, &case.record)));
     }
     files
+}
+
+/// The corridor, the demands that a case goes with, and its record, out of their files.
+pub fn input(case: &str) -> [Vec<u8>; 3] {
+    let demands = match case {
+        "case11" | "case12" | "case13" => "downstream",
+        _ => "demands",
+    };
+    ["corridor", demands, case].map(|name| {
+        let path = folder().join(format!("{name}.blocks"));
+        std::fs::read(&path).unwrap_or_else(|error| panic!("{}: {error}", path.display()))
+    })
 }

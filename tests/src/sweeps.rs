@@ -3,9 +3,10 @@
 //! each list and each lent list of another length. What random damage may miss, these do not.
 
 use crate::limits::same_in_fewer_bits;
-use crate::model::files::{BLOCK_BYTES, CHECK, KINDS};
-use crate::model::{Kind, Size};
-use crate::random::files::{change_block, FileCase};
+use crate::model::files::{BLOCK_BYTES, CHECK};
+use crate::model::kinds::KINDS;
+use crate::model::{Input, Kind, List, Size};
+use crate::random::files::{change_block, name_kind, FileCase};
 use crate::random::sound::WordCase;
 
 /// Zero and one, the limits in document 01 and the words beyond them.
@@ -62,12 +63,21 @@ fn other_lengths(length: usize) -> [usize; 5] {
     [0, 1, length - 1, length + 1, 2 * length]
 }
 
-/// Calls `visit` with every case in which one list, or one lent list, has another length.
+/// Calls `visit` with every case in which one list, or one lent list, has another length; the
+/// demands also that of each kind, and those beside it.
 pub fn each_length_changed(case: &WordCase, mut visit: impl FnMut(&WordCase)) {
     for number in 0..4 {
         for length in other_lengths(list(&mut case.clone(), number).len()) {
             let mut changed = case.clone();
             list(&mut changed, number).resize(length, 0);
+            visit(&changed);
+        }
+    }
+    let size = Input::new(&case.corridor, &case.demands).expect("a sound case").size;
+    for words in List::Demands.kinds().iter().map(|kind| kind.words(size)) {
+        for length in words - 1..=words + 1 {
+            let mut changed = case.clone();
+            changed.demands.resize(length, 0);
             visit(&changed);
         }
     }
@@ -83,7 +93,7 @@ pub fn each_length_changed(case: &WordCase, mut visit: impl FnMut(&WordCase)) {
 fn counting_file(kind: Kind, size: Size) -> FileCase {
     let (n, k) = (size.links as u32, size.steps as u32);
     let mut words: Vec<u32> = (0..kind.words(size) as u32).collect();
-    words[0] = [n, k, 0, 0][kind as usize - 1];
+    words[0] = kind.own_count(size).unwrap_or(0) as u32;
     FileCase::sound(kind, n, k, words)
 }
 
@@ -94,7 +104,7 @@ pub fn each_file_word_changed(size: Size, mut visit: impl FnMut(&FileCase)) {
         let case = counting_file(kind, size);
         for block in 0..case.file.len() / BLOCK_BYTES {
             for place in 0..=CHECK {
-                for word in [0, 1, 2, 3, 4, u32::MAX] {
+                for word in [0, 1, 2, 3, 4, 5, u32::MAX] {
                     let mut changed = case.clone();
                     change_block(&mut changed.file, block, place, |_| word);
                     visit(&changed);
@@ -103,6 +113,37 @@ pub fn each_file_word_changed(size: Size, mut visit: impl FnMut(&FileCase)) {
                 changed.file[BLOCK_BYTES * block + 4 * place + place % 4] ^= 1;
                 visit(&changed);
             }
+        }
+    }
+}
+
+/// Calls `visit` with files of both kinds of demands that say in their first block, or in all, that
+/// they are of any kind, or end before they say it; list and file are lent as either kind has them,
+/// and the list to write has either length.
+pub fn each_kind_said(size: Size, mut visit: impl FnMut(&FileCase)) {
+    let kinds = List::Demands.kinds();
+    let said = (0..=12).chain([2, 5].into_iter().flat_map(same_in_fewer_bits)).chain([u32::MAX]);
+    let said: Vec<u32> = said.collect();
+    for (&made, &lent) in kinds.iter().flat_map(|made| kinds.iter().map(move |lent| (made, lent))) {
+        let case = FileCase {
+            lent_words: lent.words(size),
+            lent_file: lent.bytes(size),
+            ..counting_file(made, size)
+        };
+        for in_all_blocks in [false, true] {
+            for &kind in &said {
+                let mut changed = case.clone();
+                name_kind(&mut changed.file, kind, in_all_blocks);
+                visit(&changed);
+                changed.file.resize(lent.bytes(size), 0);
+                visit(&changed);
+            }
+        }
+        for length in 0..=12 {
+            let mut changed = case.clone();
+            changed.file.truncate(length);
+            changed.words.resize(lent.words(size), 0);
+            visit(&changed);
         }
     }
 }

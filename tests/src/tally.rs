@@ -1,7 +1,10 @@
 //! Counts of what the random inputs brought about, so that a test can fail when a refusal, a
 //! setting or a branch of the rules never occurred.
 
+pub mod kinds;
+
 use crate::model::{check, Input, NodeStep, Quick, Rules, WHOLE};
+use kinds::{AT_LINK_N, CALLS_BY_KIND, WHERE_LESS_MAY_LEAVE};
 use std::collections::BTreeMap;
 
 /// Counts by name and, for the answers of a call, refusal number.
@@ -58,26 +61,39 @@ impl Tally {
         }
     }
 
-    /// The same for every answer that the four calls on words, or on nodes, can give.
+    /// The same for every answer that the four calls on words, or on nodes, can give with demands
+    /// of either kind.
     pub fn expect_all_answers(&self, at_least: u64) {
-        self.expect("simulate", &[0, 1, 2, 3, 4, 5, 6], at_least);
-        self.expect("check", &[0, 1, 2, 3, 4, 5, 7, 8, 9, 10, 11, 12, 13], at_least);
-        self.expect("convert", &[0, 1, 2, 3, 4, 5, 7, 8, 9, 10, 11, 12, 13], at_least);
-        self.expect("normal", &[0, 1, 2, 3, 4, 5, 6, 12], at_least);
+        for [simulate, check, convert, normal] in CALLS_BY_KIND {
+            self.expect(simulate, &[0, 1, 2, 3, 4, 5, 6], at_least);
+            self.expect(check, &[0, 1, 2, 3, 4, 5, 7, 8, 9, 10, 11, 12, 13], at_least);
+            self.expect(convert, &[0, 1, 2, 3, 4, 5, 7, 8, 9, 10, 11, 12, 13], at_least);
+            self.expect(normal, &[0, 1, 2, 3, 4, 5, 6, 12], at_least);
+        }
+        self.expect_downstream_refusals(at_least / 4);
     }
 
-    /// The answers that even a short series of large inputs brings about.
+    /// The answers that even a short series of large inputs brings about, those of all calls and
+    /// those with demands of either kind.
     pub fn expect_common_answers(&self, at_least: u64) {
         self.expect("simulate", &[0, 1, 6], at_least);
         self.expect("check", &[0, 1, 7, 9, 12], at_least);
         self.expect("convert", &[0, 1, 7, 9, 12], at_least);
         self.expect("normal", &[0, 1, 6, 12], at_least);
+        for [simulate, on_records @ ..] in CALLS_BY_KIND {
+            self.expect(simulate, &[0], at_least);
+            on_records.iter().for_each(|call| self.expect(call, &[0, 12], at_least));
+        }
     }
 
-    /// The same for everything that can happen in a step and every setting.
+    /// The same for everything that can happen in a step and every setting; less often for what
+    /// only node N and kind 5 bring about.
     pub fn expect_all_happenings(&self, at_least: u64) {
         for name in HAPPENINGS.into_iter().chain(SETTINGS) {
             self.expect(name, &[0], at_least);
+        }
+        for name in AT_LINK_N.into_iter().chain(WHERE_LESS_MAY_LEAVE) {
+            self.expect(name, &[0], at_least / 5);
         }
     }
 
@@ -107,10 +123,12 @@ impl Tally {
         for (name, count) in HAPPENINGS.into_iter().zip(counts) {
             self.add(name, 0, count);
         }
+        self.at_link_n(input, plan, record);
     }
 
-    /// Counts the settings of a plan that a converter gave: full is where the limit is V.
-    pub fn settings(&mut self, input: &Input, plan: &[u32]) {
+    /// Counts the settings of a plan that a converter gave for a record: full is where the limit is
+    /// V.
+    pub fn settings(&mut self, input: &Input, record: &[u32], plan: &[u32]) {
         let mut counts = [0; SETTINGS.len()];
         for k in 0..input.size.steps {
             for i in 0..input.size.nodes() {
@@ -126,6 +144,7 @@ impl Tally {
         for (name, count) in SETTINGS.into_iter().zip(counts) {
             self.add(name, 0, count);
         }
+        self.where_less_may_leave(input, record, plan);
     }
 }
 
@@ -138,7 +157,7 @@ fn node_happenings(
 ) -> [bool; HAPPENINGS.len() - 1] {
     let (sending, offer) = (Quick::sending(at, limit), Quick::ramp_offer(at, rate));
     let wanted = Quick::through(sending, at.split) + offer;
-    let room = at.receiving.unwrap_or(u64::MAX);
+    let room = at.supply;
     let next_capacity = (i < input.size.links).then(|| u64::from(input.node(i + 1).capacity));
     [
         wanted <= room,
@@ -151,7 +170,7 @@ fn node_happenings(
         at.queue < at.ramp_capacity && at.queue < rate,
         at.ramp_capacity < at.queue && at.ramp_capacity <= rate,
         rate < at.queue && rate < at.ramp_capacity,
-        at.receiving == next_capacity && at.receiving.is_some(),
-        at.receiving < next_capacity && at.receiving.is_some(),
+        next_capacity.is_some_and(|capacity| room == capacity),
+        next_capacity.is_some_and(|capacity| room < capacity),
     ]
 }

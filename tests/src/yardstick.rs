@@ -5,7 +5,7 @@ use crate::calls::{FileCalls, WordCalls};
 use crate::model::files::{BLOCK_BYTES, CHECK, FIRST_PAYLOAD, PAYLOAD_WORDS};
 use crate::model::lists::{test_input, test_plan};
 use crate::model::simulate::{start, write_cost};
-use crate::model::{Input, Kind, Node, Quick, Size};
+use crate::model::{Input, Kind, List, Node, Quick, Size};
 
 pub struct Yardstick;
 
@@ -28,8 +28,8 @@ struct Place {
 
 impl Place {
     #[inline]
-    fn new(nodes: &[Node], demands: &[u32], state: &[u32], i: usize) -> Place {
-        let room = nodes.get(i + 1).map_or(u64::MAX, |next| {
+    fn new(nodes: &[Node], demands: StepDemands, state: &[u32], i: usize) -> Place {
+        let room = nodes.get(i + 1).map_or(demands.downstream, |next| {
             let free = u64::from(next.jam - state[4 * i + 4]);
             ((u64::from(next.wave_speed) * free) >> 16).min(next.capacity.into())
         });
@@ -37,8 +37,8 @@ impl Place {
             node: nodes[i],
             vehicles: state[4 * i].into(),
             queue: state[4 * i + 1].into(),
-            arrivals: demands[2 * i].into(),
-            split: demands[2 * i + 1].into(),
+            arrivals: demands.row[2 * i].into(),
+            split: demands.row[2 * i + 1].into(),
             room,
         }
     }
@@ -89,24 +89,39 @@ impl Place {
     }
 }
 
+/// Q and b of all nodes in one step, and the flow that may leave link N in it.
+#[derive(Clone, Copy)]
+struct StepDemands<'a> {
+    row: &'a [u32],
+    downstream: u64,
+}
+
 /// The two states of step k and the step's part of the demands.
 fn step_lists<'a>(
-    size: Size,
+    input: &Input,
     demands: &'a [u32],
     record: &'a [u32],
     k: usize,
-) -> (&'a [u32], &'a [u32], &'a [u32]) {
+) -> (&'a [u32], &'a [u32], StepDemands<'a>) {
+    let size = input.size;
     let (state, next) = record[size.record_place(k, 0)..size.record_place(k + 2, 0)]
         .split_at(size.record_place(1, 0));
-    (state, next, step_demands(size, demands, k))
+    (state, next, step_demands(input, demands, k))
 }
 
-fn step_demands(size: Size, demands: &[u32], k: usize) -> &[u32] {
-    &demands[1 + 2 * size.nodes() * k..1 + 2 * size.nodes() * (k + 1)]
+fn step_demands<'a>(input: &Input, demands: &'a [u32], k: usize) -> StepDemands<'a> {
+    let row = input.size.demand_place(k, 0)..input.size.demand_place(k + 1, 0);
+    StepDemands { row: &demands[row], downstream: input.downstream(k) }
 }
 
 /// One step of the simulation; gives the next state's part of the cost.
-fn step(nodes: &[Node], demands: &[u32], plan: &[u32], state: &mut [u32], next: &mut [u32]) -> u64 {
+fn step(
+    nodes: &[Node],
+    demands: StepDemands,
+    plan: &[u32],
+    state: &mut [u32],
+    next: &mut [u32],
+) -> u64 {
     let (mut inflow, mut cost) = (0, 0);
     for i in 0..nodes.len() {
         let place = Place::new(nodes, demands, state, i);
@@ -124,7 +139,7 @@ fn step(nodes: &[Node], demands: &[u32], plan: &[u32], state: &mut [u32], next: 
 }
 
 /// One step of a record; gives the next state's part of the cost, or nothing if a rule is broken.
-fn check_step(nodes: &[Node], demands: &[u32], state: &[u32], next: &[u32]) -> Option<u64> {
+fn check_step(nodes: &[Node], demands: StepDemands, state: &[u32], next: &[u32]) -> Option<u64> {
     let (mut inflow, mut cost) = (0, 0);
     for i in 0..nodes.len() {
         let place = Place::new(nodes, demands, state, i);
@@ -132,10 +147,10 @@ fn check_step(nodes: &[Node], demands: &[u32], state: &[u32], next: &[u32]) -> O
         let (vehicles, queue) = (u64::from(next[4 * i]), u64::from(next[4 * i + 1]));
         let merged = place.through(flow) + ramp_flow;
         let flows = flow <= place.sending(place.node.full_speed) && ramp_flow <= place.ramp();
-        let fits = i + 1 == nodes.len() || merged <= place.room;
         let states = vehicles + flow == place.vehicles + inflow
             && queue + ramp_flow == place.queue + place.arrivals;
-        if !(flows && fits && states && queue <= place.node.queue_limit.into()) {
+        let fits = merged <= place.room && queue <= place.node.queue_limit.into();
+        if !(flows && fits && states) {
             return None;
         }
         inflow = merged;
@@ -162,7 +177,7 @@ fn sound_record(input: &Input, nodes: &[Node], demands: &[u32], record: &[u32]) 
         return false;
     }
     let cost = (0..size.steps).try_fold(0, |cost, k| {
-        let (state, next, demands) = step_lists(size, demands, record, k);
+        let (state, next, demands) = step_lists(input, demands, record, k);
         Some(cost + check_step(nodes, demands, state, next)?)
     });
     let end = size.record() - 2;
@@ -185,7 +200,7 @@ impl WordCalls for Yardstick {
         for k in 0..size.steps {
             let (state, next) = record[k * width..(k + 2) * width].split_at_mut(width);
             let plan = &plan[size.plan_place(k, 0)..size.plan_place(k + 1, 0)];
-            cost += step(&nodes, step_demands(size, demands, k), plan, state, next);
+            cost += step(&nodes, step_demands(&input, demands, k), plan, state, next);
         }
         record[size.steps * width..].chunks_exact_mut(4).for_each(|entry| entry[2..].fill(0));
         write_cost(cost, record);
@@ -208,7 +223,7 @@ impl WordCalls for Yardstick {
             return Quick.convert(corridor, demands, record, plan);
         };
         for (k, plan) in plan.chunks_exact_mut(2 * nodes.len()).enumerate() {
-            let (state, _, demands) = step_lists(input.size, demands, record, k);
+            let (state, _, demands) = step_lists(&input, demands, record, k);
             for (i, setting) in plan.chunks_exact_mut(2).enumerate() {
                 let place = Place::new(&nodes, demands, state, i);
                 let flows = (state[4 * i + 2].into(), state[4 * i + 3].into());
@@ -254,12 +269,13 @@ fn sound_file(kind: Kind, size: Size, file: &[u8]) -> bool {
 }
 
 impl FileCalls for Yardstick {
-    fn read(&self, kind: Kind, n: u32, k: u32, file: &[u8], words: &mut [u32]) -> u32 {
+    fn read(&self, list: List, n: u32, k: u32, file: &[u8], words: &mut [u32]) -> u32 {
+        let kind = list.kind_of_file(file);
         let fits =
             |size: &Size| words.len() == kind.words(*size) && file.len() == kind.bytes(*size);
         let size = Size::new(n, k).ok().filter(fits);
         if !size.is_some_and(|size| sound_file(kind, size, file)) {
-            return Quick.read(kind, n, k, file, words);
+            return Quick.read(list, n, k, file, words);
         }
         for (payload, block) in words.chunks_mut(PAYLOAD_WORDS).zip(file.chunks_exact(BLOCK_BYTES))
         {
@@ -270,8 +286,8 @@ impl FileCalls for Yardstick {
     }
 
     /// The model's writer is as quick as any.
-    fn write(&self, kind: Kind, n: u32, k: u32, words: &[u32], file: &mut [u8]) -> u32 {
-        Quick.write(kind, n, k, words, file)
+    fn write(&self, list: List, n: u32, k: u32, words: &[u32], file: &mut [u8]) -> u32 {
+        Quick.write(list, n, k, words, file)
     }
 
     fn check_files(&self, n: u32, k: u32, files: [&[u8]; 3]) -> u32 {

@@ -4,18 +4,20 @@ use tests::calls::{ByFiles, OnSmallStack};
 use tests::compare::{
     compare_file, compare_limit_on_files, compare_three, Series, CALLS_ON_FILES, READERS, WRITERS,
 };
+use tests::downstream::*;
 use tests::examples::assert_file_examples;
 use tests::host::Host;
 use tests::limits::{greatest, limit_cases};
-use tests::model::files::KINDS;
-use tests::model::{Quick, Size};
+use tests::model::kinds::KINDS;
+use tests::model::{List, Quick, Size};
 use tests::properties::*;
 use tests::random::damage::full_size;
 use tests::random::files::{
     file_case, large_file_case, large_three_files, three_files, FileCase, ThreeFiles,
 };
 use tests::random::Random;
-use tests::sweeps::{each_count_told, each_file_length, each_file_word_changed};
+use tests::sweeps::{each_count_told, each_file_length, each_file_word_changed, each_kind_said};
+use tests::tally::kinds::{CALLS_ON_FILES_BY_KIND, MIXED_KINDS};
 use tests::tally::Tally;
 
 #[test]
@@ -23,7 +25,8 @@ fn worked_cases_and_table() {
     assert_file_examples(&Host);
 }
 
-/// Readers and writers; asserts that these answers of each reader came up that often.
+/// Readers and writers; asserts that these answers of each reader came up that often, and files and
+/// lists of two kinds together.
 fn run_files(series: Series, make: fn(&mut Random) -> FileCase, numbers: &[u32], at_least: u64) {
     let mut tally = Tally::default();
     let outcome = series.run(make, |case| compare_file([&Quick, &Host], case, &mut tally));
@@ -33,6 +36,7 @@ fn run_files(series: Series, make: fn(&mut Random) -> FileCase, numbers: &[u32],
         tally.expect(reader, numbers, at_least);
         tally.expect(writer, &[0, 1], at_least);
     }
+    MIXED_KINDS.iter().for_each(|name| tally.expect(name, &[0], at_least / 2));
 }
 
 #[test]
@@ -47,27 +51,32 @@ fn large_files() {
     run_files(series, large_file_case, &[0, 1, 15, 16, 17], 2);
 }
 
-/// Checker and converter on files.
-fn run_three(series: Series, make: fn(&mut Random) -> ThreeFiles, numbers: &[u32], at_least: u64) {
+/// Checker and converter on files, the demands' of either kind.
+fn run_three(series: Series, make: fn(&mut Random) -> ThreeFiles) -> Tally {
     let mut tally = Tally::default();
     let outcome = series.run(make, |case| compare_three([&Quick, &Host], case, &mut tally));
     tally.print();
     assert_eq!(outcome, Ok(()));
-    tally.expect("check files", numbers, at_least);
-    tally.expect("convert files", numbers, at_least);
+    tally
 }
 
 #[test]
 fn small_calls_on_files() {
-    let series = Series::new("small calls on files", 60_000_000, 60_000);
+    let tally = run_three(Series::new("small calls on files", 60_000_000, 60_000), three_files);
     let numbers = [0, 1, 2, 3, 4, 5, 7, 8, 9, 10, 11, 12, 13, 14, 15, 16, 17, 18];
-    run_three(series, three_files, &numbers, 150);
+    for call in CALLS_ON_FILES_BY_KIND.as_flattened() {
+        tally.expect(call, &numbers, 150);
+    }
+    tally.expect_downstream_refusals(50);
 }
 
 #[test]
 fn large_calls_on_files() {
-    let series = Series::new("large calls on files", 70_000_000, 120);
-    run_three(series, large_three_files, &[0, 1, 12, 14, 17], 1);
+    let tally = run_three(Series::new("large calls on files", 70_000_000, 120), large_three_files);
+    CALLS_ON_FILES.iter().for_each(|call| tally.expect(call, &[0, 1, 12, 14, 17], 1));
+    for call in CALLS_ON_FILES_BY_KIND.as_flattened() {
+        tally.expect(call, &[0, 12], 1);
+    }
 }
 
 /// Files of one and of several blocks with one word, one length or one count changed, in turn.
@@ -79,6 +88,7 @@ fn every_place_changed() {
             assert_eq!(compare_file([&Quick, &Host], case, &mut tally), Ok(()), "{case:?}");
         };
         each_file_word_changed(size, &mut compare);
+        each_kind_said(size, &mut compare);
         each_count_told(size, &mut compare);
         each_file_length(size, &mut compare);
     }
@@ -87,6 +97,7 @@ fn every_place_changed() {
         tally.expect(reader, &[0, 1, 14, 15, 16, 17, 18], 5);
         tally.expect(writer, &[0, 1], 5);
     }
+    MIXED_KINDS.iter().for_each(|name| tally.expect(name, &[0], 5));
 }
 
 /// Files of just the lengths that a bad N or K tells are refused, and its good neighbours' taken.
@@ -105,7 +116,7 @@ fn sizes_around_a_full_block() {
         for kind in KINDS.into_iter().filter(|kind| [0, 1, 124].contains(&(kind.words(size) % 125)))
         {
             let mut words = vec![u32::MAX; kind.words(size)];
-            words[0] = [n, k, 5, 5][kind as usize - 1];
+            words[0] = kind.own_count(size).unwrap_or(5) as u32;
             let case = FileCase::sound(kind, n, k, words);
             let mut tally = Tally::default();
             assert_eq!(compare_file([&Quick, &Host], &case, &mut tally), Ok(()));
@@ -135,17 +146,32 @@ fn check_word_sees_any_one_change() {
 /// Every call at full size in a thread with a stack of 64 KiB.
 #[test]
 fn full_size_on_a_small_stack() {
-    let size = full_size();
-    let words = greatest(size, false);
+    let sides = [&Quick as _, &OnSmallStack(Host) as _];
     let mut tally = Tally::default();
-    let three = ThreeFiles::of_case(size, &words);
-    assert_eq!(compare_three([&Quick, &OnSmallStack(Host)], &three, &mut tally), Ok(()));
-    let lists = [words.corridor, words.demands, words.record, words.plan];
-    for (kind, words) in KINDS.into_iter().zip(lists) {
-        let case = FileCase::sound(kind, 64, 1_440, words);
-        assert_eq!(compare_file([&Quick, &OnSmallStack(Host)], &case, &mut tally), Ok(()));
+    for &kind in List::Demands.kinds() {
+        let lists = greatest(full_size(), kind, false);
+        let three = ThreeFiles::of_case(full_size(), &lists);
+        assert_eq!(compare_three(sides, &three, &mut tally), Ok(()));
+        for (kind, words) in lists.by_kind() {
+            let case = FileCase::sound(kind, 64, 1_440, words.clone());
+            assert_eq!(compare_file(sides, &case, &mut tally), Ok(()));
+        }
     }
-    for call in READERS.into_iter().chain(WRITERS).chain(CALLS_ON_FILES) {
+    let on_files = CALLS_ON_FILES_BY_KIND.as_flattened().iter().copied();
+    for call in READERS.into_iter().chain(WRITERS).chain(on_files) {
         tally.expect(call, &[0], 1);
     }
+}
+
+/// Checker and converter on the files of both kinds; simulator and normal form have no call on
+/// files.
+#[test]
+fn kind_two_is_kind_five_completed() {
+    assert_kind_two_is_kind_five_completed_in_files(&Host);
+}
+
+/// The converter's plan comes from its file.
+#[test]
+fn link_n_keeps_to_its_words() {
+    assert_link_n_keeps_to_its_words(&ByFiles(Host));
 }

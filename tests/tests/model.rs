@@ -1,11 +1,12 @@
-//! The model against document 01: its worked cases, the examples of its table, and what it says of
-//! the rules and of the search.
+//! The model against documents 01 and 02: the worked cases, the examples of the table, and what they
+//! say of the rules, of the search and of the kinds of demands.
 
 use tests::calls::ByNodes;
 use tests::compare::{compare_file, compare_words, Series};
+use tests::downstream::*;
 use tests::examples::{assert_file_examples, assert_program_examples, assert_word_examples};
 use tests::model::convert::{rate_by_halving, rate_from_zero};
-use tests::model::files::KINDS;
+use tests::model::kinds::KINDS;
 use tests::model::{Paper, Quick, Rules};
 use tests::properties::*;
 use tests::random::damage::{short_ramp_case, small_case};
@@ -42,6 +43,7 @@ fn both_searches_give_the_same_answers() {
     tally.expect_all_happenings(1_000);
     // Of 7 to 13 a normal form can meet 12 only.
     assert!([7, 8, 9, 10, 11, 13].iter().all(|&number| tally.count("normal", number) == 0));
+    tally.expect_downstream_refusals(20);
 }
 
 /// The benchmarks' yardstick does the same work.
@@ -56,8 +58,12 @@ fn yardstick_gives_the_same_answers() {
     let outcome =
         series.run(file_case, |case| compare_file([&Quick, &Yardstick], case, &mut tally));
     assert_eq!(outcome, Ok(()));
-    tally.expect("convert", &[0, 9, 11, 12], 100);
-    tally.expect("read record", &[0, 1, 14, 15, 16, 17, 18], 50);
+    for name in ["convert kind 2", "convert kind 5"] {
+        tally.expect(name, &[0, 9, 11, 12], 100);
+    }
+    for name in ["read demands", "read demands of kind 5", "read record"] {
+        tally.expect(name, &[0, 1, 14, 15, 16, 17, 18], 50);
+    }
 }
 
 #[test]
@@ -104,6 +110,23 @@ fn flows_are_monotone_in_the_rate() {
 #[test]
 fn held_limit_is_the_smallest() {
     assert_held_limit_is_the_smallest(&Quick);
+}
+
+#[test]
+fn flow_out_of_link_n_is_exact() {
+    assert_flow_out_of_link_n_is_exact(&Paper);
+}
+
+#[test]
+fn link_n_keeps_to_its_words() {
+    assert_link_n_keeps_to_its_words(&Quick);
+}
+
+#[test]
+fn kind_two_is_kind_five_completed() {
+    assert_kind_two_is_kind_five_completed(&Quick);
+    assert_kind_two_is_kind_five_completed_in_files(&Quick);
+    assert_kind_two_is_kind_five_completed_in_program(&Quick);
 }
 
 #[test]

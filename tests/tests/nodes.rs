@@ -2,15 +2,18 @@
 
 use tests::calls::{ByNodes, OnSmallStack};
 use tests::compare::{compare_limit_on_words, compare_words, Series, CALLS_ON_LISTS};
+use tests::downstream::*;
+use tests::examples::downstream::b_downstream;
 use tests::examples::{assert_word_examples, b};
 use tests::host::Host;
 use tests::limits::{greatest, limit_cases};
-use tests::model::{Paper, Quick, Size};
+use tests::model::{Kind, List, Paper, Quick, Size};
 use tests::properties::*;
 use tests::random::damage::{full_size, large_case, size, small_case};
 use tests::random::sound::{sound_case, WordCase};
 use tests::random::Random;
 use tests::sweeps::{each_length_changed, each_word_changed};
+use tests::tally::kinds::CALLS_BY_KIND;
 use tests::tally::Tally;
 
 #[test]
@@ -18,7 +21,7 @@ fn worked_cases_and_table() {
     assert_word_examples(&ByNodes(Host));
 }
 
-/// B with one word or one length changed, every place in turn.
+/// B with demands of both kinds, with one word or one length changed, every place in turn.
 #[test]
 fn every_place_changed() {
     let mut tally = Tally::default();
@@ -26,9 +29,13 @@ fn every_place_changed() {
     let mut compare = |case: &WordCase| {
         assert_eq!(compare_words(sides, case, &mut tally), Ok(()), "{case:?}");
     };
-    each_word_changed(&b(), &mut compare);
-    each_length_changed(&b(), &mut compare);
-    tally.expect("simulate", &[0, 1, 2, 3, 4, 5, 6], 10);
+    for case in [b(), b_downstream()] {
+        each_word_changed(&case, &mut compare);
+        each_length_changed(&case, &mut compare);
+    }
+    for [simulate, ..] in CALLS_BY_KIND {
+        tally.expect(simulate, &[0, 1, 2, 3, 4, 5, 6], 10);
+    }
 }
 
 fn run(series: Series, make: fn(&mut Random) -> WordCase) -> Tally {
@@ -63,7 +70,9 @@ fn same_as_on_words() {
     let mut tally = Tally::default();
     let outcome = series.run(make, |case| compare_words([&Host, &ByNodes(Host)], case, &mut tally));
     assert_eq!(outcome, Ok(()));
-    tally.expect("normal", &[0, 12], 100);
+    for [.., normal] in CALLS_BY_KIND {
+        tally.expect(normal, &[0, 12], 100);
+    }
 }
 
 /// All other lists have just the lengths that the number of nodes tells, none at all included.
@@ -85,11 +94,13 @@ fn assert_all(case: &WordCase, accepted: bool) {
 /// other lists are for N links too.
 #[test]
 fn every_number_of_nodes() {
-    let most = greatest(full_size(), false);
+    let most = greatest(full_size(), Kind::Demands, false);
     for nodes in 1..=70 {
-        let own = greatest(Size { links: nodes - 1, steps: 3 }, false);
-        assert_all(&own, (2..=65).contains(&nodes));
-        let corridor = own.corridor;
+        let size = Size { links: nodes - 1, steps: 3 };
+        for &kind in List::Demands.kinds() {
+            assert_all(&greatest(size, kind, false), (2..=65).contains(&nodes));
+        }
+        let corridor = greatest(size, Kind::Demands, false).corridor;
         assert_all(&WordCase { corridor, ..most.clone() }, nodes == 65);
     }
 }
@@ -98,12 +109,14 @@ fn every_number_of_nodes() {
 #[test]
 fn full_size_on_a_small_stack() {
     let mut tally = Tally::default();
-    for jammed in [true, false] {
-        let case = greatest(full_size(), jammed);
-        let sides = [&ByNodes(Quick) as _, &OnSmallStack(ByNodes(Host)) as _];
-        assert_eq!(compare_words(sides, &case, &mut tally), Ok(()));
+    for &kind in List::Demands.kinds() {
+        for jammed in [true, false] {
+            let case = greatest(full_size(), kind, jammed);
+            let sides = [&ByNodes(Quick) as _, &OnSmallStack(ByNodes(Host)) as _];
+            assert_eq!(compare_words(sides, &case, &mut tally), Ok(()));
+        }
     }
-    for call in CALLS_ON_LISTS {
+    for call in CALLS_BY_KIND.as_flattened() {
         tally.expect(call, &[0], 1);
     }
 }
@@ -131,4 +144,19 @@ fn flows_are_monotone_in_the_rate() {
 #[test]
 fn held_limit_is_the_smallest() {
     assert_held_limit_is_the_smallest(&ByNodes(Host));
+}
+
+#[test]
+fn flow_out_of_link_n_is_exact() {
+    assert_flow_out_of_link_n_is_exact(&ByNodes(Host));
+}
+
+#[test]
+fn link_n_keeps_to_its_words() {
+    assert_link_n_keeps_to_its_words(&ByNodes(Host));
+}
+
+#[test]
+fn kind_two_is_kind_five_completed() {
+    assert_kind_two_is_kind_five_completed(&ByNodes(Host));
 }

@@ -10,6 +10,7 @@ use tests::pages::{
     text_of, top,
 };
 use tests::program::Executable;
+use tests::samples;
 
 #[test]
 fn quoted_passages_stand_in_their_files() {
@@ -45,17 +46,32 @@ fn worked_lists_are_what_the_calls_compute() {
     }
 }
 
+/// Where 70 units may leave link 2: f of node 2, n of link 2 after it, and the cost.
+#[test]
+fn worked_demands_of_kind_five_are_what_the_calls_compute() {
+    let [corridor, downstream, plan, record] =
+        ["corridor", "downstream", "plan", "record"].map(words);
+    let (f, n, cost) = (10, 20, 24);
+    let mut behind = record;
+    (behind[f], behind[n], behind[cost]) = (70, 230, 400);
+    for side in [&Quick as &dyn WordCalls, &Host] {
+        let mut work = vec![u32::MAX; behind.len()];
+        assert_eq!(side.simulate(&corridor, &downstream, &plan, &mut work), 0);
+        assert_eq!(work, behind);
+    }
+}
+
 #[test]
 fn printed_lines_are_what_the_program_prints() {
-    let page = text_of("docs/MODEL.md");
-    let file = |name: &str| {
-        let path = top().join("examples/b").join(format!("{name}.blocks"));
-        std::fs::read(path).expect("the example is there")
-    };
-    for case in ["case1", "case5"] {
-        let input = [file("corridor"), file("demands"), file(case)].concat();
-        let printed = Executable::new().print(&input);
-        assert_eq!(String::from_utf8_lossy(&printed), passage(&page, &format!("printed {case}")));
+    let printed = passages(&text_of("docs/MODEL.md")).into_iter().filter_map(|passage| {
+        let case = passage.label.strip_prefix("printed ")?.to_string();
+        Some((case, passage.text))
+    });
+    let printed: Vec<(String, String)> = printed.collect();
+    assert!(printed.len() >= 2, "nothing printed is shown");
+    for (case, text) in printed {
+        let output = Executable::new().print(&samples::input(&case).concat());
+        assert_eq!(String::from_utf8_lossy(&output), text, "{case}");
     }
 }
 

@@ -9,16 +9,18 @@ use std::path::Path;
 use std::process::Output;
 use tests::calls::Program;
 use tests::compare::{compare_limit_of_program, compare_program, Series};
+use tests::downstream::*;
 use tests::examples::assert_program_examples;
 use tests::limits::limit_cases;
 use tests::model::lists::{MOST_LINKS, MOST_STEPS};
 use tests::model::program::{file_ends, MOST_BYTES};
-use tests::model::{Quick, Size};
+use tests::model::{Kind, List, Quick, Size};
 use tests::program::{run, Executable};
-use tests::random::files::{program_input, ThreeFiles};
-use tests::random::sound::sound_case;
+use tests::random::files::{name_kind, program_input, ThreeFiles};
+use tests::random::sound::{sound_case, sound_case_of};
 use tests::random::Random;
 use tests::samples;
+use tests::tally::kinds::CALLS_BY_KIND;
 use tests::tally::Tally;
 
 #[test]
@@ -35,16 +37,20 @@ fn random_inputs() {
         series.run(program_input, |input| compare_program([&Quick, &program], input, &mut tally));
     tally.print();
     assert_eq!(outcome, Ok(()));
-    tally.expect("normal", &[0, 1, 2, 3, 4, 5, 7, 8, 9, 10, 11, 12, 13, 14, 15, 16, 17, 18], 20);
+    tally.expect("normal", &[1, 14], 20);
+    for [.., normal] in CALLS_BY_KIND {
+        tally.expect(normal, &[0, 2, 3, 4, 5, 7, 8, 9, 10, 11, 12, 13, 15, 16, 17, 18], 10);
+    }
+    tally.expect_downstream_refusals(2);
     tally.expect("held lines", &[0], 1_000);
     tally.expect("full lines", &[0], 1_000);
 }
 
-/// Sizes whose three files have just that many bytes, for all N.
-fn sizes_of(bytes: usize) -> Vec<Size> {
+/// Sizes whose three files have just that many bytes, for all N, with demands of that kind.
+fn sizes_of(bytes: usize, demands: Kind) -> Vec<Size> {
     let all = (1..=MOST_LINKS).flat_map(|n| (1..=MOST_STEPS).map(move |k| Size::new(n, k)));
     let all = all.map(|size| size.expect("within limits"));
-    all.filter(|size| file_ends(*size)[2] == bytes).collect()
+    all.filter(|size| file_ends(*size, demands)[2] == bytes).collect()
 }
 
 /// Inputs just as long as the program takes, one block shorter and one longer.
@@ -53,14 +59,19 @@ fn longest_inputs() {
     let program = Executable::new();
     let mut tally = Tally::default();
     let mut random = Random::new(130_000_000);
-    for bytes in [MOST_BYTES - 512, MOST_BYTES, MOST_BYTES + 512] {
-        for size in sizes_of(bytes).into_iter().step_by(4) {
-            let case = sound_case(&mut random, size, false);
-            let input = ThreeFiles::of_case(size, &case).files().concat();
-            assert_eq!(compare_program([&Quick, &program], &input, &mut tally), Ok(()));
+    for &kind in List::Demands.kinds() {
+        for bytes in [MOST_BYTES - 512, MOST_BYTES, MOST_BYTES + 512] {
+            for size in sizes_of(bytes, kind).into_iter().step_by(4) {
+                let case = sound_case_of(&mut random, size, kind, false);
+                let input = ThreeFiles::of_case(size, &case).files().concat();
+                assert_eq!(compare_program([&Quick, &program], &input, &mut tally), Ok(()));
+            }
         }
     }
-    tally.expect("normal", &[0, 14], 5);
+    tally.expect("normal", &[14], 10);
+    for [.., normal] in CALLS_BY_KIND {
+        tally.expect(normal, &[0], 5);
+    }
 }
 
 /// Inputs of just the length that a bad N or K tells are refused, and its good neighbours' taken.
@@ -76,22 +87,52 @@ fn limits_of_links_and_steps() {
 fn inputs_that_end_early() {
     let program = Executable::new();
     let size = Size { links: 2, steps: 3 };
-    let case = sound_case(&mut Random::new(140_000_000), size, false);
-    let input = ThreeFiles::of_case(size, &case).files().concat();
-    let near_blocks = (1..=3).flat_map(|block| 512 * block - 1..=512 * block + 1);
     let mut tally = Tally::default();
-    let lengths = (0..=16).chain(508..=528).chain(near_blocks);
-    for length in lengths.filter(|&length| length <= input.len()) {
-        let outcome = compare_program([&Quick, &program], &input[..length], &mut tally);
-        assert_eq!(outcome, Ok(()), "{length} bytes");
+    for &kind in List::Demands.kinds() {
+        let case = sound_case_of(&mut Random::new(140_000_000), size, kind, false);
+        let input = ThreeFiles::of_case(size, &case).files().concat();
+        let near_blocks = (1..=3).flat_map(|block| 512 * block - 1..=512 * block + 1);
+        let lengths = (0..=16).chain(508..=528).chain(near_blocks);
+        for length in lengths.filter(|&length| length <= input.len()) {
+            let outcome = compare_program([&Quick, &program], &input[..length], &mut tally);
+            assert_eq!(outcome, Ok(()), "{length} bytes");
+        }
     }
-    tally.expect("normal", &[14], 40);
+    tally.expect("normal", &[14], 80);
 }
 
-/// B's corridor, its demands and a record, out of the example files.
-fn example(record: &str) -> Vec<u8> {
-    let read = |name| fs::read(samples::folder().join(name)).expect("the example is there");
-    ["corridor.blocks", "demands.blocks", record].map(read).concat()
+/// Inputs of both kinds whose demands say that they are of any kind, in their first block or in all,
+/// the rest of the input being where it was or where that kind has it.
+#[test]
+fn demands_that_say_another_kind() {
+    let program = Executable::new();
+    let size = Size { links: 2, steps: 60 };
+    let mut tally = Tally::default();
+    for &kind in List::Demands.kinds() {
+        let case = sound_case_of(&mut Random::new(210_000_000), size, kind, false);
+        let three = ThreeFiles::of_case(size, &case);
+        for (said, in_all_blocks) in (0..=12).flat_map(|said| [(said, false), (said, true)]) {
+            for length in List::Demands.kinds().iter().map(|kind| kind.bytes(size)) {
+                let mut demands = three.demands.clone();
+                name_kind(&mut demands, said, in_all_blocks);
+                demands.resize(length, 0);
+                let input = [&three.corridor[..], &demands, &three.record].concat();
+                let outcome = compare_program([&Quick, &program], &input, &mut tally);
+                assert_eq!(outcome, Ok(()), "{kind:?}, {said}, {length} bytes");
+            }
+        }
+    }
+    tally.expect("normal", &[0, 14, 16], 2);
+}
+
+#[test]
+fn kind_two_is_kind_five_completed() {
+    assert_kind_two_is_kind_five_completed_in_program(&Executable::new());
+}
+
+/// A case out of the example files.
+fn example(case: &str) -> Vec<u8> {
+    samples::input(case).concat()
 }
 
 /// The program ended by itself, and said just that on standard error.
@@ -103,7 +144,7 @@ fn assert_says(output: &Output, line: &str) {
 /// An input that is accepted, one that is refused and one that is too long.
 #[test]
 fn output_that_takes_nothing() {
-    for input in [example("case1.blocks"), example("case5.blocks"), vec![0; MOST_BYTES + 1]] {
+    for input in [example("case1"), example("case5"), vec![0; MOST_BYTES + 1]] {
         let mut command = Executable::new().command();
         command.stdout(File::options().write(true).open("/dev/full").expect("Linux has it"));
         assert_says(&run(command, &input), "normal: cannot write standard output\n");
@@ -145,7 +186,7 @@ fn input_that_cannot_be_read() {
 /// input that would be accepted or refused if it ended there is neither.
 #[test]
 fn input_that_can_be_read_in_part() {
-    let accepted = example("case1.blocks");
+    let accepted = example("case1");
     let inputs = [&accepted[..0], &accepted[..700], &accepted, &[0; MOST_BYTES]];
     for input in inputs {
         let (mut giver, taker) = UnixStream::pair().expect("a socket can be made");

@@ -1,16 +1,19 @@
 //! The host's calls on word lists against the model: answers and lent lists, word for word.
 
 use tests::calls::{OnSmallStack, WordCalls};
-use tests::compare::{compare_limit_on_words, compare_words, Series, CALLS_ON_LISTS};
+use tests::compare::{compare_limit_on_words, compare_words, Series};
+use tests::downstream::*;
+use tests::examples::downstream::b_downstream;
 use tests::examples::{assert_word_examples, b};
 use tests::host::Host;
 use tests::limits::{greatest, limit_cases};
-use tests::model::{Paper, Quick, Size};
+use tests::model::{Kind, List, Paper, Quick, Size};
 use tests::properties::*;
 use tests::random::damage::{full_size, large_case, short_ramp_case, small_case};
-use tests::random::sound::{sound_case, WordCase};
+use tests::random::sound::{sound_case_of, WordCase};
 use tests::random::Random;
 use tests::sweeps::{each_length_changed, each_word_changed};
+use tests::tally::kinds::CALLS_BY_KIND;
 use tests::tally::Tally;
 
 /// Runs a series and asserts that no difference was found.
@@ -27,12 +30,14 @@ fn worked_cases_and_table() {
     assert_word_examples(&Host);
 }
 
-/// B and a longer case with one word or one length changed, every place in turn.
+/// B and a longer case, with demands of both kinds, with one word or one length changed, every place
+/// in turn.
 #[test]
 fn every_place_changed() {
-    let longer = Size { links: 3, steps: 3 };
+    let size = Size { links: 3, steps: 3 };
+    let longer = |kind| sound_case_of(&mut Random::new(4), size, kind, false);
     let mut tally = Tally::default();
-    for case in [b(), sound_case(&mut Random::new(4), longer, false)] {
+    for case in [b(), b_downstream(), longer(Kind::Demands), longer(Kind::Downstream)] {
         let mut compare = |case: &WordCase| {
             assert_eq!(compare_words([&Paper, &Host], case, &mut tally), Ok(()), "{case:?}");
         };
@@ -41,8 +46,13 @@ fn every_place_changed() {
         each_length_changed(&case, &mut compare);
     }
     tally.print();
-    tally.expect("simulate", &[0, 1, 2, 3, 4, 5, 6], 20);
-    tally.expect("check", &[0, 1, 2, 3, 4, 5, 7, 8, 11, 13], 20);
+    for [simulate, check, ..] in CALLS_BY_KIND {
+        tally.expect(simulate, &[0, 1, 2, 3, 4, 5, 6], 20);
+        tally.expect(check, &[0, 1, 2, 3, 4, 5, 7, 8, 11, 13], 20);
+    }
+    for name in ["flow refused by 9 at node N", "word refused by 5"] {
+        tally.expect(name, &[0], 10);
+    }
 }
 
 #[test]
@@ -77,17 +87,19 @@ fn limits_of_links_and_steps() {
 /// Every call at full size, accepted and refused, in a thread with a stack of 64 KiB.
 #[test]
 fn full_size_on_a_small_stack() {
-    let mut cases = vec![greatest(full_size(), true), greatest(full_size(), false)];
-    cases.extend((0..8).map(|seed| sound_case(&mut Random::new(seed), full_size(), false)));
     let mut tally = Tally::default();
-    for case in &cases {
-        let outcome = compare_words([&Quick, &OnSmallStack(Host)], case, &mut tally);
-        assert_eq!(outcome, Ok(()));
+    for &kind in List::Demands.kinds() {
+        let sound = |seed| sound_case_of(&mut Random::new(seed), full_size(), kind, false);
+        let greatest = [true, false].map(|jammed| greatest(full_size(), kind, jammed));
+        for case in greatest.into_iter().chain((0..8).map(sound)) {
+            let outcome = compare_words([&Quick, &OnSmallStack(Host)], &case, &mut tally);
+            assert_eq!(outcome, Ok(()));
+        }
     }
-    for call in CALLS_ON_LISTS {
-        tally.expect(call, &[0], 2);
+    for calls in CALLS_BY_KIND {
+        calls.iter().for_each(|call| tally.expect(call, &[0], 2));
+        tally.expect(calls[3], &[12], 1);
     }
-    tally.expect("normal", &[12], 1);
 }
 
 #[test]
@@ -113,4 +125,19 @@ fn flows_are_monotone_in_the_rate() {
 #[test]
 fn held_limit_is_the_smallest() {
     assert_held_limit_is_the_smallest(&Host);
+}
+
+#[test]
+fn flow_out_of_link_n_is_exact() {
+    assert_flow_out_of_link_n_is_exact(&Host);
+}
+
+#[test]
+fn link_n_keeps_to_its_words() {
+    assert_link_n_keeps_to_its_words(&Host);
+}
+
+#[test]
+fn kind_two_is_kind_five_completed() {
+    assert_kind_two_is_kind_five_completed(&Host);
 }

@@ -6,7 +6,7 @@ use std::time::Instant;
 use tests::calls::WordCalls;
 use tests::host::Host;
 use tests::model::lists::{corridor_of, Node};
-use tests::model::{Input, MOST_QUEUE_LIMIT};
+use tests::model::{Input, Kind, MOST_QUEUE_LIMIT};
 use tests::random::damage::full_size;
 use tests::random::records::record_of_plan;
 use tests::random::Random;
@@ -38,8 +38,9 @@ fn node(random: &mut Random, i: usize, links: usize) -> Node {
 }
 
 /// 64 links and 1,440 steps, every ramp as long as any and with a long queue, some links held and
-/// some with too little room, so that the search for a rate has everything to do.
-fn lists() -> Lists {
+/// some with too little room, so that the search for a rate has everything to do. With demands of
+/// kind 5 less may leave the last link in some steps than it sends.
+fn lists(demands_kind: Kind) -> Lists {
     let size = full_size();
     let mut random = Random::new(1);
     let nodes: Vec<Node> = (0..size.nodes()).map(|i| node(&mut random, i, size.links)).collect();
@@ -54,6 +55,9 @@ fn lists() -> Lists {
             let limit = random.pick(&[node.full_speed, held]);
             plan.extend([random.within(0, node.ramp_capacity.into()) as u32, limit]);
         }
+    }
+    if demands_kind == Kind::Downstream {
+        demands.extend((0..size.steps).map(|_| random.within(0, 65_536) as u32));
     }
     let corridor = corridor_of(&nodes);
     let input = Input::new(&corridor, &demands).expect("made to these lengths");
@@ -93,7 +97,7 @@ fn compare<T: Copy + Default>(
     println!("| {name} | {host:.3} | {rust:.3} | {:.2} |", host / rust);
 }
 
-fn bench_words(lists: &Lists) {
+fn bench_words(lists: &Lists, demands_kind: Kind) {
     let Lists { corridor, demands, plan, record } = lists;
     let simulate =
         |calls: &dyn WordCalls, out: &mut [u32]| calls.simulate(corridor, demands, plan, out);
@@ -101,41 +105,42 @@ fn bench_words(lists: &Lists) {
     let convert =
         |calls: &dyn WordCalls, out: &mut [u32]| calls.convert(corridor, demands, record, out);
     let (record_length, plan_length) = (record.len(), plan.len());
-    compare("simulate", record_length, &mut |out| simulate(&Host, out), &mut |out| {
+    let name = |call: &str| format!("{call}, demands of kind {}", demands_kind as u32);
+    compare(&name("simulate"), record_length, &mut |out| simulate(&Host, out), &mut |out| {
         simulate(&Yardstick, out)
     });
-    compare::<u32>("check", 0, &mut |_| check(&Host), &mut |_| check(&Yardstick));
-    compare("convert", plan_length, &mut |out| convert(&Host, out), &mut |out| {
+    compare::<u32>(&name("check"), 0, &mut |_| check(&Host), &mut |_| check(&Yardstick));
+    compare(&name("convert"), plan_length, &mut |out| convert(&Host, out), &mut |out| {
         convert(&Yardstick, out)
     });
 }
 
 #[cfg(feature = "files")]
-fn bench_files(lists: &Lists) {
+fn bench_files(two: &Lists, five: &Lists) {
     use tests::calls::FileCalls;
-    use tests::model::files::KINDS;
+    use tests::compare::{READERS, WRITERS};
+    use tests::model::kinds::KINDS;
     use tests::random::files::file_of;
-    let all = [&lists.corridor, &lists.demands, &lists.record, &lists.plan];
+    let all = [&two.corridor, &two.demands, &two.record, &two.plan, &five.demands];
     for (kind, words) in KINDS.into_iter().zip(all) {
-        let file = file_of(kind, words);
-        let read = |calls: &dyn FileCalls, out: &mut [u32]| calls.read(kind, 64, 1_440, &file, out);
+        let (file, list) = (file_of(kind, words), kind.list());
+        let read = |calls: &dyn FileCalls, out: &mut [u32]| calls.read(list, 64, 1_440, &file, out);
         let write =
-            |calls: &dyn FileCalls, out: &mut [u8]| calls.write(kind, 64, 1_440, words, out);
-        let (reader, writer) = (format!("read {kind:?}"), format!("write {kind:?}"));
-        compare(&reader, words.len(), &mut |out| read(&Host, out), &mut |out| {
-            read(&Yardstick, out)
-        });
-        compare(&writer, file.len(), &mut |out| write(&Host, out), &mut |out| {
+            |calls: &dyn FileCalls, out: &mut [u8]| calls.write(list, 64, 1_440, words, out);
+        let (reader, writer) = (READERS[kind as usize - 1], WRITERS[kind as usize - 1]);
+        compare(reader, words.len(), &mut |out| read(&Host, out), &mut |out| read(&Yardstick, out));
+        compare(writer, file.len(), &mut |out| write(&Host, out), &mut |out| {
             write(&Yardstick, out)
         });
     }
 }
 
 fn main() {
-    let lists = lists();
+    let [two, five] = [Kind::Demands, Kind::Downstream].map(lists);
     println!("| 64 links, 1,440 steps | host, ms | Rust, ms | ratio |");
     println!("|-|-|-|-|");
-    bench_words(&lists);
+    bench_words(&two, Kind::Demands);
+    bench_words(&five, Kind::Downstream);
     #[cfg(feature = "files")]
-    bench_files(&lists);
+    bench_files(&two, &five);
 }

@@ -2,7 +2,7 @@
 
 use super::Host;
 use crate::calls::FileCalls;
-use crate::model::Kind;
+use crate::model::List;
 
 type Read = unsafe extern "C" fn(u32, u32, *const u8, usize, *mut u32, usize) -> u32;
 type Write = unsafe extern "C" fn(u32, u32, *const u32, usize, *mut u8, usize) -> u32;
@@ -47,22 +47,22 @@ extern "C" {
 // SAFETY, for every call: each address and length are those of a slice that lives through it.
 #[rustfmt::skip]
 impl FileCalls for Host {
-    fn read(&self, kind: Kind, n: u32, k: u32, file: &[u8], words: &mut [u32]) -> u32 {
-        let read: Read = match kind {
-            Kind::Corridor => gigorchid_read_corridor,
-            Kind::Demands => gigorchid_read_demands,
-            Kind::Record => gigorchid_read_record,
-            Kind::Plan => gigorchid_read_plan,
+    fn read(&self, list: List, n: u32, k: u32, file: &[u8], words: &mut [u32]) -> u32 {
+        let read: Read = match list {
+            List::Corridor => gigorchid_read_corridor,
+            List::Demands => gigorchid_read_demands,
+            List::Record => gigorchid_read_record,
+            List::Plan => gigorchid_read_plan,
         };
         unsafe { read(n, k, file.as_ptr(), file.len(), words.as_mut_ptr(), words.len()) }
     }
 
-    fn write(&self, kind: Kind, n: u32, k: u32, words: &[u32], file: &mut [u8]) -> u32 {
-        let write: Write = match kind {
-            Kind::Corridor => gigorchid_write_corridor,
-            Kind::Demands => gigorchid_write_demands,
-            Kind::Record => gigorchid_write_record,
-            Kind::Plan => gigorchid_write_plan,
+    fn write(&self, list: List, n: u32, k: u32, words: &[u32], file: &mut [u8]) -> u32 {
+        let write: Write = match list {
+            List::Corridor => gigorchid_write_corridor,
+            List::Demands => gigorchid_write_demands,
+            List::Record => gigorchid_write_record,
+            List::Plan => gigorchid_write_plan,
         };
         unsafe { write(n, k, words.as_ptr(), words.len(), file.as_mut_ptr(), file.len()) }
     }

@@ -116,7 +116,7 @@ fn next_fault(here: &Proposal) -> bool {
 pub fn flow_fault<R: Rules>(number: u32, at: &NodeStep, flow: u64, ramp_flow: u64) -> bool {
     match number {
         8 => flow > R::sending(at, at.full_speed),
-        9 => at.receiving.is_some_and(|room| R::through(flow, at.split) + ramp_flow > room),
+        9 => R::through(flow, at.split) + ramp_flow > at.supply,
         _ => ramp_flow > at.queue.min(at.ramp_capacity),
     }
 }

@@ -1,50 +1,13 @@
-//! Block files: readers and writers of the four kinds, and the C host's two calls on files.
+//! Block files: a reader and a writer for each list, and the C host's two calls on files.
 
 use super::lists::same_length;
-use super::{check, convert, refuse_if, Outcome, Refusal, Rules, Size};
+use super::{check, convert, refuse_if, Kind, List, Outcome, Refusal, Rules, Size};
 
 pub const BLOCK_BYTES: usize = 512;
 pub const BLOCK_WORDS: usize = 128;
 pub const FIRST_PAYLOAD: usize = 2;
 pub const CHECK: usize = 127;
 pub const PAYLOAD_WORDS: usize = CHECK - FIRST_PAYLOAD;
-
-/// The kinds of files, with the number that word 0 of each block holds.
-#[derive(Clone, Copy, Debug, PartialEq, Eq)]
-pub enum Kind {
-    Corridor = 1,
-    Demands = 2,
-    Record = 3,
-    Plan = 4,
-}
-
-pub const KINDS: [Kind; 4] = [Kind::Corridor, Kind::Demands, Kind::Record, Kind::Plan];
-
-impl Kind {
-    /// The length of the kind's word list.
-    pub fn words(self, size: Size) -> usize {
-        match self {
-            Kind::Corridor => size.corridor(),
-            Kind::Demands => size.demands(),
-            Kind::Record => size.record(),
-            Kind::Plan => size.plan(),
-        }
-    }
-
-    /// The N or K that the kind's first word states, if it states one.
-    pub fn own_count(self, size: Size) -> Option<usize> {
-        match self {
-            Kind::Corridor => Some(size.links),
-            Kind::Demands => Some(size.steps),
-            Kind::Record | Kind::Plan => None,
-        }
-    }
-
-    /// The length of the kind's file in bytes.
-    pub fn bytes(self, size: Size) -> usize {
-        file_bytes(self.words(size))
-    }
-}
 
 /// The length in bytes of a file of so many words.
 pub fn file_bytes(words: usize) -> usize {
@@ -69,9 +32,10 @@ fn test_own_count(kind: Kind, size: Size, words: &[u32]) -> Outcome {
     refuse_if(told.is_some_and(|count| words[0] as usize != count), 1, 0, 0)
 }
 
-/// Reads a file of that kind into a lent word list.
-pub fn read<R: Rules>(kind: Kind, n: u32, k: u32, file: &[u8], words: &mut [u32]) -> Outcome {
+/// Reads a file into a lent word list, which must have the length of the file's kind.
+pub fn read<R: Rules>(list: List, n: u32, k: u32, file: &[u8], words: &mut [u32]) -> Outcome {
     let size = R::size(n, k)?;
+    let kind = R::kind_of_file(list, file);
     same_length(words.len(), kind.words(size))?;
     words.copy_from_slice(&R::read_list(kind, size, file)?);
     Ok(())
@@ -113,10 +77,10 @@ pub fn block_fault<R: Rules>(
     }
 }
 
-/// Writes a word list into a lent file.
-pub fn write<R: Rules>(kind: Kind, n: u32, k: u32, words: &[u32], file: &mut [u8]) -> Outcome {
+/// Writes a word list into a lent file, as the kind that its length tells.
+pub fn write<R: Rules>(list: List, n: u32, k: u32, words: &[u32], file: &mut [u8]) -> Outcome {
     let size = R::size(n, k)?;
-    same_length(words.len(), kind.words(size))?;
+    let kind = R::kind_of_length(list, size, words.len())?;
     same_length(file.len(), kind.bytes(size))?;
     test_own_count(kind, size, words)?;
     write_blocks::<R>(kind, words, file);
@@ -138,11 +102,12 @@ pub fn write_blocks<R: Rules>(kind: Kind, words: &[u32], file: &mut [u8]) {
     }
 }
 
-/// The three lists that checker and converter take, read in turn.
+/// The three lists that checker and converter take, read in turn, each as its file's kind.
 pub fn read_three<R: Rules>(size: Size, files: [&[u8]; 3]) -> Result<[Vec<u32>; 3], Refusal> {
-    let corridor = R::read_list(Kind::Corridor, size, files[0])?;
-    let demands = R::read_list(Kind::Demands, size, files[1])?;
-    let record = R::read_list(Kind::Record, size, files[2])?;
+    let read = |list, file| R::read_list(R::kind_of_file(list, file), size, file);
+    let corridor = read(List::Corridor, files[0])?;
+    let demands = read(List::Demands, files[1])?;
+    let record = read(List::Record, files[2])?;
     Ok([corridor, demands, record])
 }
 

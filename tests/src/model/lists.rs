@@ -1,7 +1,7 @@
-//! The word lists of document 01: their lengths, where each word stands, and refusals 1 to 6,
-//! which concern the corridor, the demands and the plan.
+//! The word lists: their lengths, where each word stands, and refusals 1 to 6, which concern the
+//! corridor, the demands and the plan.
 
-use super::{refusal, refuse_if, Outcome, Quick, Refusal, Rules, MOST_QUEUE_LIMIT, WHOLE};
+use super::{refusal, refuse_if, List, Outcome, Quick, Refusal, Rules, MOST_QUEUE_LIMIT, WHOLE};
 
 pub const MOST_LINKS: u32 = 64;
 pub const MOST_STEPS: u32 = 1_440;
@@ -34,6 +34,7 @@ impl Size {
         1 + NODE_WORDS * self.nodes()
     }
 
+    /// K, then Q and b of each step and node: all of kind 2, and what kind 5 starts with.
     pub fn demands(self) -> usize {
         1 + DEMAND_WORDS * self.nodes() * self.steps
     }
@@ -45,6 +46,16 @@ impl Size {
     /// States 0..K, then the two words of the cost.
     pub fn record(self) -> usize {
         RECORD_WORDS * self.nodes() * (self.steps + 1) + 2
+    }
+
+    /// Where the demands' Q stands; b follows.
+    pub fn demand_place(self, k: usize, i: usize) -> usize {
+        1 + DEMAND_WORDS * (k * self.nodes() + i)
+    }
+
+    /// Where kind 5 has the flow that may leave link N in step k.
+    pub fn downstream_place(self, k: usize) -> usize {
+        self.demands() + k
     }
 
     /// Where the plan's rate stands; the limit follows.
@@ -133,7 +144,7 @@ impl<'a> Input<'a> {
         let k = *demands.first().ok_or(bad)?;
         let size = R::size(n, k)?;
         same_length(corridor.len(), size.corridor())?;
-        same_length(demands.len(), size.demands())?;
+        R::kind_of_length(List::Demands, size, demands.len())?;
         Ok(Input::of_size(size, corridor, demands))
     }
 
@@ -147,16 +158,23 @@ impl<'a> Input<'a> {
         Node::from_words(&self.corridor[place..place + NODE_WORDS])
     }
 
-    fn demand(&self, k: usize, i: usize) -> usize {
-        1 + DEMAND_WORDS * (k * self.size.nodes() + i)
-    }
-
     pub fn arrivals(&self, k: usize, i: usize) -> u64 {
-        self.demands[self.demand(k, i)].into()
+        self.demands[self.size.demand_place(k, i)].into()
     }
 
     pub fn split(&self, k: usize, i: usize) -> u64 {
-        self.demands[self.demand(k, i) + 1].into()
+        self.demands[self.size.demand_place(k, i) + 1].into()
+    }
+
+    /// Whether the demands are of kind 5.
+    pub fn has_downstream(&self) -> bool {
+        self.demands.len() > self.size.demands()
+    }
+
+    /// The flow that may leave link N in step k. Kind 2 has no such words and counts as 65,536
+    /// throughout, which no link can exceed.
+    pub fn downstream(&self, k: usize) -> u64 {
+        self.demands.get(self.size.downstream_place(k)).map_or(WHOLE, |&word| word.into())
     }
 }
 
@@ -213,12 +231,13 @@ pub fn start_fault(input: &Input, i: usize) -> bool {
     fixed_vehicles || fixed_queue || too_many
 }
 
-/// Refusal 5: Q or b out of range, Q not zero at node N, b not zero at node 0 or N.
+/// Refusal 5: Q or b out of range, Q not zero at node N, b not zero at node 0 or N; at node N also
+/// the flow that may leave link N in that step, wherever its word stands in the list.
 pub fn demand_fault(input: &Input, k: usize, i: usize) -> bool {
     let (arrivals, split) = (input.arrivals(k, i), input.split(k, i));
     let last = i == input.size.links;
     let fixed = (last && arrivals != 0) || ((i == 0 || last) && split != 0);
-    arrivals > WHOLE || split > WHOLE || fixed
+    arrivals > WHOLE || split > WHOLE || fixed || (last && input.downstream(k) > WHOLE)
 }
 
 /// Refusal 6, first place by step, then node.

@@ -1,8 +1,8 @@
 //! The program `normal`: what it prints for given bytes on standard input.
 
 use super::convert::{rate_and_limit, setting_at};
-use super::files::{read_three, words_of, Kind};
-use super::{refusal, refuse_if, Input, Refusal, Rules, Setting, Size};
+use super::files::{read_three, words_of};
+use super::{refusal, refuse_if, Input, Kind, List, Refusal, Rules, Setting, Size};
 
 pub const MOST_BYTES: usize = 65_536;
 
@@ -14,14 +14,9 @@ pub fn print<R: Rules>(input: &[u8]) -> String {
     }
 }
 
-/// The lines of the plan: 14 above 65,536 bytes, then N and K, then 14 unless the length is just
-/// that of the three files, then their readers in turn, then the converter's refusals.
+/// The lines of the plan: the three files' readers in turn, then the converter's refusals.
 fn plan_text<R: Rules>(bytes: &[u8]) -> Result<String, Refusal> {
-    refuse_if(bytes.len() > MOST_BYTES, 14, 0, 0)?;
-    let size = R::program_size(bytes)?;
-    let ends = file_ends(size);
-    refuse_if(bytes.len() != ends[2], 14, 0, 0)?;
-    let files = [&bytes[..ends[0]], &bytes[ends[0]..ends[1]], &bytes[ends[1]..]];
+    let (size, files) = three_files::<R>(bytes)?;
     let [corridor, demands, record] = read_three::<R>(size, files)?;
     let input = Input::by::<R>(&corridor, &demands)?;
     R::test_input(&input)?;
@@ -29,18 +24,29 @@ fn plan_text<R: Rules>(bytes: &[u8]) -> Result<String, Refusal> {
     Ok(lines::<R>(&input, &record))
 }
 
-/// Where the corridor's, the demands' and the record's file end.
-pub fn file_ends(size: Size) -> [usize; 3] {
-    let corridor = Kind::Corridor.bytes(size);
-    let demands = corridor + Kind::Demands.bytes(size);
-    [corridor, demands, demands + Kind::Record.bytes(size)]
+/// The input's size and its three files: 14 above 65,536 bytes, then N and K, then 14 unless the
+/// length is just that of the files, with demands of the kind that their own first block names.
+pub fn three_files<R: Rules>(bytes: &[u8]) -> Result<(Size, [&[u8]; 3]), Refusal> {
+    refuse_if(bytes.len() > MOST_BYTES, 14, 0, 0)?;
+    let size = R::program_size(bytes)?;
+    let demands = R::kind_of_file(List::Demands, &bytes[Kind::Corridor.bytes(size)..]);
+    let ends = file_ends(size, demands);
+    refuse_if(bytes.len() != ends[2], 14, 0, 0)?;
+    Ok((size, [&bytes[..ends[0]], &bytes[ends[0]..ends[1]], &bytes[ends[1]..]]))
+}
+
+/// Where the corridor's, the demands' and the record's file end, with demands of that kind.
+pub fn file_ends(size: Size, demands: Kind) -> [usize; 3] {
+    let corridor_end = Kind::Corridor.bytes(size);
+    let demands_end = corridor_end + demands.bytes(size);
+    [corridor_end, demands_end, demands_end + Kind::Record.bytes(size)]
 }
 
 /// N is word 2 of the corridor's first block, K that of the demands' first block; N is judged
 /// before K is looked for.
 pub fn program_size<R: Rules>(bytes: &[u8]) -> Result<Size, Refusal> {
     let n = word_two(bytes, 0)?;
-    let corridor_end = file_ends(R::size(n, 1)?)[0];
+    let corridor_end = Kind::Corridor.bytes(R::size(n, 1)?);
     R::size(n, word_two(bytes, corridor_end)?)
 }
 

@@ -1,7 +1,8 @@
-//! The rules of document 01 that everything else is made of, one function each, so that a wrong
-//! variant of the model differs from the paper in just one of them.
+//! The rules that everything else is made of, one function each, so that a wrong variant of the model
+//! differs from the papers in just one of them.
 
-use super::{check, convert, files, lists, Input, Outcome, Refusal, Setting, Size, WHOLE};
+use super::{check, convert, files, lists};
+use super::{Input, Kind, List, Outcome, Refusal, Setting, Size, WHOLE};
 
 /// One node at one step: all that rules 1 to 5 use, taken from the state at the step's start.
 #[derive(Clone, Copy, Debug)]
@@ -13,15 +14,14 @@ pub struct NodeStep {
     pub queue: u64,
     pub arrivals: u64,
     pub split: u64,
-    /// S of the next link; none at node N, past which traffic is always free.
-    pub receiving: Option<u64>,
+    /// S of the merge.
+    pub supply: u64,
 }
 
 impl NodeStep {
     /// Node i at step k; `state` holds the n, l, f, r of all nodes in state k.
     pub fn new<R: Rules>(input: &Input, state: &[u32], k: usize, i: usize) -> NodeStep {
         let node = input.node(i);
-        let next = (i < input.size.links).then(|| R::receiving(input, state, i + 1));
         NodeStep {
             capacity: node.capacity.into(),
             full_speed: node.full_speed.into(),
@@ -30,7 +30,7 @@ impl NodeStep {
             queue: state[lists::RECORD_WORDS * i + 1].into(),
             arrivals: input.arrivals(k, i),
             split: input.split(k, i),
-            receiving: next,
+            supply: R::supply(input, state, k, i),
         }
     }
 }
@@ -52,6 +52,16 @@ pub trait Rules: Sync + Sized {
     /// The size that N and K tell, or refusal 1 for a bad one.
     fn size(n: u32, k: u32) -> Result<Size, Refusal> {
         Size::new(n, k)
+    }
+
+    /// The kind that a list's length chooses, or refusal 1.
+    fn kind_of_length(list: List, size: Size, words: usize) -> Result<Kind, Refusal> {
+        list.kind_of_length(size, words)
+    }
+
+    /// The kind that a file's first word chooses.
+    fn kind_of_file(list: List, file: &[u8]) -> Kind {
+        list.kind_of_file(file)
     }
 
     /// Rule 1. Node 0 has no link: its n and F are zero, and so is D.
@@ -77,13 +87,22 @@ pub trait Rules: Sync + Sized {
         room.min(node.capacity.into())
     }
 
-    /// Rule 5. R > S leaves no R of zero to divide by.
+    /// S of node i's merge in step k: what the next link receives, at node N the flow that may leave
+    /// link N.
+    fn supply(input: &Input, state: &[u32], k: usize, i: usize) -> u64 {
+        if i == input.size.links {
+            return input.downstream(k);
+        }
+        Self::receiving(input, state, i + 1)
+    }
+
+    /// Rule 5, at node N too. R > S leaves no R of zero to divide by.
     fn merge(at: &NodeStep, sending: u64, offer: u64) -> (u64, u64) {
         let wanted = Self::through(sending, at.split) + offer;
-        match at.receiving {
-            Some(room) if wanted > room => (sending * room / wanted, offer * room / wanted),
-            _ => (sending, offer),
+        if wanted <= at.supply {
+            return (sending, offer);
         }
+        (sending * at.supply / wanted, offer * at.supply / wanted)
     }
 
     /// Rule 6 for a link that takes in `inflow` and sends off `flow`.
@@ -167,7 +186,7 @@ pub trait Rules: Sync + Sized {
     }
 
     /// The words of a file, or refusal 14 to 18, or 1 for a differing own N or K.
-    fn read_list(kind: files::Kind, size: Size, file: &[u8]) -> Result<Vec<u32>, Refusal> {
+    fn read_list(kind: Kind, size: Size, file: &[u8]) -> Result<Vec<u32>, Refusal> {
         files::read_list::<Self>(kind, size, file)
     }
 

@@ -1,11 +1,11 @@
 //! Cases with damage: words changed, flows moved by one, lists cut and extended, wrong N and K,
-//! records that break rules; and the mixes of cases that the tests run.
+//! demands of the other kind, records that break rules; and the mixes of cases that the tests run.
 
 use super::records::faulty_record;
 use super::sound::{sound_case, WordCase};
 use super::Random;
 use crate::model::lists::{test_input, MOST_LINKS, MOST_STEPS, NODE_WORDS};
-use crate::model::{Input, Quick, Size};
+use crate::model::{Input, Kind, Quick, Size, WHOLE};
 
 /// A size with at most that many links and steps.
 pub fn size(random: &mut Random, links: u64, steps: u64) -> Size {
@@ -58,7 +58,7 @@ pub fn mixed_case(random: &mut Random, size: Size, short_ramps: bool) -> WordCas
 
 /// One kind of damage.
 fn damage(random: &mut Random, case: &mut WordCase) {
-    match random.below(30) {
+    match random.below(34) {
         0..=2 => change_words(random, &mut case.corridor),
         3 | 4 => change_words(random, &mut case.demands),
         5 | 6 => change_words(random, &mut case.plan),
@@ -72,6 +72,8 @@ fn damage(random: &mut Random, case: &mut WordCase) {
         17 => move_flow(random, case),
         18 | 19 => overfill_start(random, &mut case.corridor),
         20 | 21 => change_fixed(random, case),
+        22 | 23 => change_downstream(random, case),
+        24 | 25 => change_kind(random, case),
         _ => propose_faulty(random, case),
     }
 }
@@ -199,6 +201,37 @@ fn change_fixed(random: &mut Random, case: &mut WordCase) {
         _ => size.record_place(k, size.links) + 1 + 2 * half,
     };
     case.record[place] = random.strange_word(case.record[place]);
+}
+
+/// The flow that may leave link N in some step beyond its range, or any word; perhaps arrivals or a
+/// split of some step beyond theirs, as all of them are judged by step, then node.
+fn change_downstream(random: &mut Random, case: &mut WordCase) {
+    let kind_five = input_of(case).filter(Input::has_downstream);
+    let Some(size) = kind_five.map(|input| input.size) else {
+        return;
+    };
+    let place = size.downstream_place(random.below(size.steps));
+    let strange = random.strange_word(case.demands[place]);
+    case.demands[place] = random.pick(&[WHOLE as u32 + 1, strange]);
+    if random.one_in(2) {
+        let (k, i) = (random.below(size.steps), random.below(size.nodes()));
+        case.demands[size.demand_place(k, i) + random.below(2)] = WHOLE as u32 + 1;
+    }
+}
+
+/// The demands as a list of the other kind: without the last K words, or with K more.
+fn change_kind(random: &mut Random, case: &mut WordCase) {
+    let Some((size, shorter)) = input_of(case).map(|input| (input.size, input.has_downstream()))
+    else {
+        return;
+    };
+    if shorter {
+        case.demands_kind = Kind::Demands;
+        return case.demands.truncate(size.demands());
+    }
+    case.demands_kind = Kind::Downstream;
+    let most = random.pick(&[0, 100, WHOLE, WHOLE + 1]);
+    case.demands.extend((0..size.steps).map(|_| random.within(0, most) as u32));
 }
 
 /// A whole record that breaks rules in one step and is consistent otherwise. It takes sound

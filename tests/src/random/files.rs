@@ -1,19 +1,20 @@
 //! Block files, sound and damaged: bytes flipped, files cut and extended, kinds, block numbers and
-//! padding changed with the check word made right again, other N and K told.
+//! padding changed with the check word made right again, other N and K told, lists of another
+//! kind's length lent.
 
 use super::damage::{cut_or_extend, full_size, mixed_case, other_length, size};
 use super::sound::WordCase;
 use super::Random;
-use crate::model::files::{
-    file_bytes, words_of, write_blocks, BLOCK_BYTES, CHECK, FIRST_PAYLOAD, KINDS,
-};
+use crate::model::files::{file_bytes, words_of, write_blocks, BLOCK_BYTES, CHECK, FIRST_PAYLOAD};
+use crate::model::kinds::KINDS;
 use crate::model::lists::{MOST_LINKS, MOST_STEPS};
 use crate::model::program::{file_ends, MOST_BYTES};
 use crate::model::{Kind, Quick, Rules, Size};
 
-/// What a reader and a writer of one kind take.
+/// What a reader and a writer of one list take.
 #[derive(Clone, Debug)]
 pub struct FileCase {
+    /// What file and words were made as; the reader goes by the file, the writer by the length.
     pub kind: Kind,
     pub n: u32,
     pub k: u32,
@@ -61,7 +62,7 @@ impl ThreeFiles {
             n,
             k,
             corridor: file_of(Kind::Corridor, &case.corridor),
-            demands: file_of(Kind::Demands, &case.demands),
+            demands: file_of(case.demands_kind, &case.demands),
             record: file_of(Kind::Record, &case.record),
             lent_plan_file: file_bytes(case.plan.len()),
         }
@@ -116,15 +117,43 @@ pub fn any_words(random: &mut Random, kind: Kind, size: Size) -> Vec<u32> {
 }
 
 fn damage_file_case(random: &mut Random, case: &mut FileCase) {
-    match random.below(10) {
+    match random.below(12) {
         0 => case.n = told(random, case.n),
         1 => case.k = told(random, case.k),
         2 => case.lent_words = other_length(random, case.lent_words),
         3 => case.lent_file = other_length(random, case.lent_file),
         4 => cut_or_extend(random, &mut case.words),
         5 if !case.words.is_empty() => case.words[0] = random.strange_word(case.words[0]),
+        6 | 7 => mix_kinds(random, case),
         _ => damage_file(random, &mut case.file),
     }
+}
+
+/// Lengths, the list and what the file says of itself, each as any kind of the list has it: they go
+/// together or do not.
+fn mix_kinds(random: &mut Random, case: &mut FileCase) {
+    let Ok(size) = Size::new(case.n, case.k) else {
+        return;
+    };
+    let kinds = case.kind.list().kinds();
+    case.lent_words = random.pick(kinds).words(size);
+    case.lent_file = random.pick(kinds).bytes(size);
+    case.words.resize(random.pick(kinds).words(size), 0);
+    let said = random.pick(kinds);
+    match random.below(4) {
+        0 => name_kind(&mut case.file, said as u32, false),
+        1 => name_kind(&mut case.file, said as u32, true),
+        2 => case.file.resize(said.bytes(size), 0),
+        _ => {}
+    }
+}
+
+/// Has the first block, or all blocks, of a file say that they are of that kind, the check word
+/// made right again.
+pub fn name_kind(file: &mut [u8], kind: u32, in_all_blocks: bool) {
+    let blocks = file.len() / BLOCK_BYTES;
+    let named = if in_all_blocks { blocks } else { blocks.min(1) };
+    (0..named).for_each(|block| change_block(file, block, 0, |_| kind));
 }
 
 /// Another N or K to tell: one beside, one that is the same in fewer bits, a limit, anything.
@@ -142,7 +171,7 @@ fn damage_file(random: &mut Random, file: &mut Vec<u8>) {
         return file.resize(random.pick(&[1, 511, 512]), 0);
     }
     let block = random.below(blocks);
-    match random.below(12) {
+    match random.below(15) {
         0 | 1 => flip_bit(random, file),
         2 => file[BLOCK_BYTES * block + 4 * random.below(2)] ^= 1 << random.below(8),
         3 | 4 => change_block(file, block, 0, |kind| random.strange_word(kind)),
@@ -151,6 +180,9 @@ fn damage_file(random: &mut Random, file: &mut Vec<u8>) {
         8 => change_block(file, blocks - 1, CHECK - 1, |word| random.strange_word(word)),
         9 => change_block(file, block, random.below(CHECK), |word| random.strange_word(word)),
         10 => file.copy_within(BLOCK_BYTES * block..BLOCK_BYTES * (block + 1), 0),
+        11 => name_kind(file, random.pick(&[2, 5]), random.one_in(2)),
+        12 => name_kind(file, random.within(0, 12) as u32, random.one_in(2)),
+        13 => file.truncate(random.below(9)),
         _ => cut_or_extend(random, file),
     }
 }
@@ -227,21 +259,24 @@ fn fitting_size(random: &mut Random) -> Size {
         let any_steps = random.within(1, most_steps);
         let steps = random.pick(&[any_steps, most_steps]) as u32;
         let size = Size::new(links, steps).expect("within limits");
-        if file_ends(size)[2] <= MOST_BYTES {
+        if file_ends(size, Kind::Downstream)[2] <= MOST_BYTES {
             return size;
         }
     }
 }
 
-/// Damage to the input as a whole: N or K changed, cut at any byte, extended, far too long.
+/// Damage to the input as a whole: N, K or the demands' kind changed, cut at any byte, extended, far
+/// too long.
 fn damage_input(random: &mut Random, input: &mut Vec<u8>, size: Size) {
-    let demands = file_ends(size)[0];
-    match random.below(6) {
+    let demands = Kind::Corridor.bytes(size);
+    match random.below(8) {
         0 => change_input_word(random, input, 8),
         1 => change_input_word(random, input, demands + 8),
         2 => input.truncate(random.below(input.len() + 1)),
         3 => input.truncate(demands + random.below(16)),
         4 => input.truncate(random.below(16)),
+        5 => change_input_word(random, input, demands),
+        6 if input.len() > demands => input[demands] = random.pick(&[2, 5]),
         _ => input.resize(random.pick(&[MOST_BYTES - 1, MOST_BYTES, MOST_BYTES + 1, 100_000]), 0),
     }
 }

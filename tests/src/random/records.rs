@@ -84,12 +84,9 @@ fn beside(random: &mut Random, at: &NodeStep, (flow, ramp_flow): (u64, u64)) -> 
 fn any_allowed(random: &mut Random, at: &NodeStep) -> (u64, u64) {
     let most_ramp = at.queue.min(at.ramp_capacity);
     let flow = random.within(0, Quick::sending(at, at.full_speed));
-    let Some(room) = at.receiving else {
-        return (flow, random.within(0, most_ramp));
-    };
     // Without a ramp the merge brings any flow down to one that there is room for.
     let (flow, _) = Quick::merge(at, flow, 0);
-    let left = room - Quick::through(flow, at.split);
+    let left = at.supply - Quick::through(flow, at.split);
     (flow, random.within(0, most_ramp.min(left)))
 }
 
@@ -134,9 +131,10 @@ fn faulty_flows(
     };
     let (allowed, allowed_ramp) = any_allowed(random, at);
     let (some_flow, some_ramp) = random.pick(&[(0, 0), (allowed, allowed_ramp)]);
-    let room = at.receiving.unwrap_or(0) + excess;
+    let room = at.supply + excess;
     let (flow, ramp_flow) = match number {
         8 => (Quick::sending(at, at.full_speed) + excess, some_ramp),
+        9 if i == input.size.links => (room, 0),
         9 => (allowed, room.saturating_sub(Quick::through(allowed, at.split))),
         _ => (some_flow, at.queue.min(at.ramp_capacity) + excess),
     };

@@ -3,18 +3,32 @@
 
 use super::records::{free_record, record_of_plan};
 use super::Random;
-use crate::model::lists::{corridor_of, Node};
-use crate::model::{Input, Size, MOST_QUEUE_LIMIT, WHOLE};
+use crate::model::lists::{corridor_of, Node, NODE_WORDS};
+use crate::model::{Input, Kind, List, Size, MOST_QUEUE_LIMIT, WHOLE};
 
 /// All lists that the calls on words take, and the lengths of the lists lent to them.
 #[derive(Clone, Debug)]
 pub struct WordCase {
+    /// What the demands were made as; the calls go by their length.
+    pub demands_kind: Kind,
     pub corridor: Vec<u32>,
     pub demands: Vec<u32>,
     pub plan: Vec<u32>,
     pub record: Vec<u32>,
     pub lent_record: usize,
     pub lent_plan: usize,
+}
+
+impl WordCase {
+    /// The lists, each as the kind that it was made as.
+    pub fn by_kind(&self) -> [(Kind, &Vec<u32>); 4] {
+        [
+            (Kind::Corridor, &self.corridor),
+            (self.demands_kind, &self.demands),
+            (Kind::Record, &self.record),
+            (Kind::Plan, &self.plan),
+        ]
+    }
 }
 
 /// What the amounts of a corridor have in common.
@@ -67,18 +81,34 @@ fn usual_flow(random: &mut Random) -> u64 {
     random.pick(&[1, 4, 60, 1_000, 20_000, WHOLE])
 }
 
-/// A case with sound lists: the record is the plan's, or one with flows chosen freely.
+/// A case with sound lists, its demands of either kind.
 pub fn sound_case(random: &mut Random, size: Size, short_ramps: bool) -> WordCase {
+    let demands = random.pick(List::Demands.kinds());
+    sound_case_of(random, size, demands, short_ramps)
+}
+
+/// The same with demands of that kind: the record is the plan's, or one with flows chosen freely.
+pub fn sound_case_of(
+    random: &mut Random,
+    size: Size,
+    demands_kind: Kind,
+    short_ramps: bool,
+) -> WordCase {
     let style = style(random, short_ramps);
     let corridor = corridor(random, size, style);
-    let demands = demands(random, size, style);
+    let mut demands = demands(random, size, style);
+    if demands_kind == Kind::Downstream {
+        let end = Node::from_words(&corridor[corridor.len() - NODE_WORDS..]);
+        demands.extend(downstream(random, size, style, &end));
+    }
     let input = Input::new(&corridor, &demands).expect("made to these lengths");
     let plan = plan(random, &input);
     let record = match random.one_in(2) {
         true => record_of_plan(&input, &plan),
         false => free_record(random, &input),
     };
-    WordCase { corridor, demands, plan, record, lent_record: size.record(), lent_plan: size.plan() }
+    let (lent_record, lent_plan) = (size.record(), size.plan());
+    WordCase { demands_kind, corridor, demands, plan, record, lent_record, lent_plan }
 }
 
 /// A capacity or arrivals: now and then nothing, one, the most, or the most of all.
@@ -232,6 +262,35 @@ fn demands(random: &mut Random, size: Size, style: Style) -> Vec<u32> {
         }
     }
     demands
+}
+
+/// The flow that may leave link N: for each step its own or, in some lists, one for all steps.
+fn downstream(random: &mut Random, size: Size, style: Style, end: &Node) -> Vec<u32> {
+    let one_for_all = random.one_in(4);
+    let first = downstream_word(random, style, end);
+    let mut words = vec![first as u32; size.steps];
+    for word in words[1..].iter_mut().filter(|_| !one_for_all) {
+        *word = downstream_word(random, style, end) as u32;
+    }
+    words
+}
+
+/// Now and then nothing or the most of all, mostly near what link N sends or below it, so that it
+/// often binds; where traffic keeps moving, at least half of what the link can send.
+fn downstream_word(random: &mut Random, style: Style, end: &Node) -> u64 {
+    let capacity = u64::from(end.capacity);
+    let at_full_speed = u64::from(end.start_vehicles) * u64::from(end.full_speed) / WHOLE;
+    let sending = at_full_speed.min(capacity);
+    let word = match (style.values, random.below(8)) {
+        (_, 0) => WHOLE,
+        (Values::Moderate, _) => random.within(capacity / 2, capacity + capacity / 4),
+        (_, 1) => 0,
+        (_, 2) => random.within(1, 2),
+        (_, 3 | 4) => (sending + random.within(0, 2)).saturating_sub(1),
+        (_, 5) => (capacity + random.within(0, 2)).saturating_sub(1),
+        _ => random.within(0, capacity),
+    };
+    word.min(WHOLE)
 }
 
 /// A rate or a limit from 0 to `most`: mostly the most, in part anything, in part nothing.

@@ -4,7 +4,8 @@
 use super::wrong;
 use tests::calls::FileCalls;
 use tests::model::files::{block_fault, read_list, words_of, BLOCK_BYTES};
-use tests::model::{refusal, refuse_if, Kind, Quick, Refusal, Size};
+use tests::model::{answer, refusal, refuse_if, Kind, List, Quick, Refusal, Rules, Size};
+use tests::random::files::name_kind;
 
 /// The words of a file of the right length, without any test of it.
 fn untested(kind: Kind, size: Size, file: &[u8]) -> Vec<u32> {
@@ -87,7 +88,7 @@ wrong! { variants: FileCalls;
     OwnCountBeforePadding {
         fn read_list(kind: Kind, size: Size, file: &[u8]) -> Result<Vec<u32>, Refusal> {
             let own = payload(file).first().copied().unwrap_or(0) as usize;
-            let told = [size.links, size.steps, own, own][kind as usize - 1];
+            let told = kind.own_count(size).unwrap_or(own);
             match Quick::read_list(kind, size, file) {
                 Err(Refusal { number: 18, .. }) if own != told => Err(refusal(1, 0, 0)),
                 result => result,
@@ -112,6 +113,60 @@ wrong! { variants: FileCalls;
             read_list::<Quick>(kind, size, &file[..end])
         }
     }
+
+    /// Word 0 of 5 is any other value, as before there was such a kind.
+    FiveReadAsTwo {
+        fn kind_of_file(list: List, _: &[u8]) -> Kind {
+            list.kinds()[0]
+        }
+    }
+
+    /// Word 0 of any other value is the newest kind.
+    OthersReadAsNewest {
+        fn kind_of_file(list: List, file: &[u8]) -> Kind {
+            let newest = list.kinds()[list.kinds().len() - 1];
+            let oldest = file.starts_with(&(list.kinds()[0] as u32).to_le_bytes());
+            if oldest { list.kinds()[0] } else { newest }
+        }
+    }
+
+    /// Word 0 is looked at only where its block is whole.
+    KindOfWholeBlocksOnly {
+        fn kind_of_file(list: List, file: &[u8]) -> Kind {
+            list.kind_of_file(if file.len() < BLOCK_BYTES { &[] } else { file })
+        }
+    }
+
+    /// One byte of word 0 is looked at.
+    KindInOneByte {
+        fn kind_of_file(list: List, file: &[u8]) -> Kind {
+            list.kind_of_file(&file.first().map_or([0; 4], |&byte| [byte, 0, 0, 0]))
+        }
+    }
+
+    /// Blocks of kind 2 are let pass in a file of kind 5.
+    TwoTakenInFive {
+        fn read_list(kind: Kind, size: Size, file: &[u8]) -> Result<Vec<u32>, Refusal> {
+            match Quick::read_list(kind, size, file) {
+                Err(Refusal { number: 16, row, .. })
+                    if kind == Kind::Downstream && file[BLOCK_BYTES * row as usize] == 2 =>
+                {
+                    Ok(untested(kind, size, file))
+                }
+                result => result,
+            }
+        }
+    }
+
+    /// A list of kind 5's length cannot be written.
+    FiveNotWritten {
+        fn kind_of_length(list: List, size: Size, words: usize) -> Result<Kind, Refusal> {
+            list.kind_of_length(size, words).and_then(|kind| match kind {
+                Kind::Downstream => Err(refusal(1, 0, 0)),
+                _ => Ok(kind),
+            })
+        }
+    }
 }
 
 /// What a variant of the calls does wrong; everything else is the model's.
@@ -125,51 +180,82 @@ enum Wrong {
     RecordReadFirst,
     PlanFileWrittenOnRefusal,
     PlanFileLengthLast,
+    LentLengthChooses,
+    OtherKindsLengthLent,
+    WrittenAsTwo,
 }
 
 use Wrong::*;
 
 impl Wrong {
-    fn counts(self, kind: Kind, n: u32, k: u32) -> (u32, u32) {
-        match (self, kind) {
+    fn counts(self, list: List, n: u32, k: u32) -> (u32, u32) {
+        match (self, list) {
             (CountsIn16Bits, _) => (n & 0xFFFF, k & 0xFFFF),
-            (StepsUntestedForCorridors, Kind::Corridor) => (n, 1),
+            (StepsUntestedForCorridors, List::Corridor) => (n, 1),
             _ => (n, k),
         }
+    }
+
+    /// A reader that takes the kind from the lent list's length, or lets that of any kind pass until
+    /// the file has been looked at.
+    fn read_by_length(
+        self,
+        list: List,
+        size: Size,
+        file: &[u8],
+        words: &mut [u32],
+    ) -> Result<(), Refusal> {
+        let lent = list.kind_of_length(size, words.len())?;
+        let kind = match self {
+            LentLengthChooses => lent,
+            _ => list.kind_of_file(file),
+        };
+        let read = Quick::read_list(kind, size, file)?;
+        refuse_if(lent != kind, 1, 0, 0)?;
+        words.copy_from_slice(&read);
+        Ok(())
     }
 }
 
 impl FileCalls for Wrong {
-    fn read(&self, kind: Kind, n: u32, k: u32, file: &[u8], words: &mut [u32]) -> u32 {
-        let (n, k) = self.counts(kind, n, k);
-        let answer = Quick.read(kind, n, k, file, words);
+    fn read(&self, list: List, n: u32, k: u32, file: &[u8], words: &mut [u32]) -> u32 {
+        let (n, k) = self.counts(list, n, k);
+        if let (LentLengthChooses | OtherKindsLengthLent, Ok(size)) = (self, Size::new(n, k)) {
+            return answer(self.read_by_length(list, size, file, words));
+        }
+        let answer = Quick.read(list, n, k, file, words);
         if matches!(self, ReaderWritesOnRefusal) && answer % 256 >= 15 {
             words.fill(0);
         }
         answer
     }
 
-    fn write(&self, kind: Kind, n: u32, k: u32, words: &[u32], file: &mut [u8]) -> u32 {
-        let (n, k) = self.counts(kind, n, k);
+    fn write(&self, list: List, n: u32, k: u32, words: &[u32], file: &mut [u8]) -> u32 {
+        let (n, k) = self.counts(list, n, k);
         let mut words = words.to_vec();
-        if let (OwnCountWrittenOver, Kind::Corridor, true) = (self, kind, !words.is_empty()) {
+        if let (OwnCountWrittenOver, List::Corridor, true) = (self, list, !words.is_empty()) {
             words[0] = n;
         }
-        Quick.write(kind, n, k, &words, file)
+        let answer = Quick.write(list, n, k, &words, file);
+        if let (WrittenAsTwo, List::Demands, 0) = (self, list, answer) {
+            name_kind(file, 2, true);
+        }
+        answer
     }
 
     fn check_files(&self, n: u32, k: u32, files: [&[u8]; 3]) -> u32 {
-        let kinds = [Kind::Corridor, Kind::Demands, Kind::Record];
+        let lists = [List::Corridor, List::Demands, List::Record];
         let Ok(size) = Size::new(n, k) else {
             return 1;
         };
+        let bytes = |list: &List, file: &[u8]| list.kind_of_file(file).bytes(size);
         let other_length =
-            kinds.iter().zip(files).any(|(kind, file)| file.len() != kind.bytes(size));
+            lists.iter().zip(files).any(|(list, file)| file.len() != bytes(list, file));
         match self {
             LengthsOfAllFilesFirst if other_length => 14,
             RecordReadFirst => {
                 let mut record = vec![0; size.record()];
-                let answer = Quick.read(Kind::Record, n, k, files[2], &mut record);
+                let answer = Quick.read(List::Record, n, k, files[2], &mut record);
                 if answer == 0 {
                     Quick.check_files(n, k, files)
                 } else {
@@ -201,5 +287,8 @@ pub fn call_variants() -> Vec<(&'static str, &'static dyn FileCalls)> {
         ("RecordReadFirst", &RecordReadFirst),
         ("PlanFileWrittenOnRefusal", &PlanFileWrittenOnRefusal),
         ("PlanFileLengthLast", &PlanFileLengthLast),
+        ("LentLengthChooses", &LentLengthChooses),
+        ("OtherKindsLengthLent", &OtherKindsLengthLent),
+        ("WrittenAsTwo", &WrittenAsTwo),
     ]
 }

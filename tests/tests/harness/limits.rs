@@ -3,7 +3,7 @@
 use tests::calls::{ByNodes, FileCalls, WordCalls};
 use tests::compare::{compare_limit_of_program, compare_limit_on_files, compare_limit_on_words};
 use tests::limits::{limit_cases, LimitCase};
-use tests::model::{refuse_if, Kind, Quick, Refusal, Rules, Size};
+use tests::model::{refuse_if, List, Quick, Refusal, Rules, Size};
 
 /// The model with N in `N0..=N1` and K in `K0..=K1`.
 #[derive(Clone, Copy)]
@@ -29,7 +29,7 @@ pub fn assert_wide_limits_found() {
 fn assert_wide_limit_found<R: Rules + Copy>(wide: R, in_program: bool) {
     let wrongly_taken = |case: &LimitCase| !case.is_within() && R::size(case.n, case.k).is_ok();
     let cases: Vec<_> = limit_cases().filter(wrongly_taken).collect();
-    assert_eq!(cases.len(), 3);
+    assert_eq!(cases.len(), 6);
     for case in &cases {
         for call in 0..4 {
             let variant = InOneCall(call, wide);
@@ -93,12 +93,12 @@ impl<C: WordCalls> InOneCall<C> {
 }
 
 impl<C: FileCalls> FileCalls for InOneCall<C> {
-    fn read(&self, kind: Kind, n: u32, k: u32, file: &[u8], words: &mut [u32]) -> u32 {
-        self.file_calls(kind as usize - 1).read(kind, n, k, file, words)
+    fn read(&self, list: List, n: u32, k: u32, file: &[u8], words: &mut [u32]) -> u32 {
+        self.file_calls(list as usize).read(list, n, k, file, words)
     }
 
-    fn write(&self, kind: Kind, n: u32, k: u32, words: &[u32], file: &mut [u8]) -> u32 {
-        self.file_calls(kind as usize + 3).write(kind, n, k, words, file)
+    fn write(&self, list: List, n: u32, k: u32, words: &[u32], file: &mut [u8]) -> u32 {
+        self.file_calls(list as usize + 4).write(list, n, k, words, file)
     }
 
     fn check_files(&self, n: u32, k: u32, files: [&[u8]; 3]) -> u32 {

@@ -2,8 +2,8 @@
 
 use super::wrong;
 use tests::calls::Program;
-use tests::model::program::{file_ends, program_size};
-use tests::model::{refusal, refuse_if, Quick, Refusal, Size};
+use tests::model::program::program_size;
+use tests::model::{refusal, refuse_if, Kind, List, Quick, Refusal, Size};
 
 wrong! { variants: Program;
     /// Whole blocks are asked for before N is looked at.
@@ -27,10 +27,25 @@ wrong! { variants: Program;
         fn program_size(bytes: &[u8]) -> Result<Size, Refusal> {
             let links = bytes.get(8..12).map(|word| u32::from(word[0]));
             if let Some(size) = links.and_then(|n| Size::new(n, 1).ok()) {
-                let file = &bytes[..file_ends(size)[0].min(bytes.len())];
-                Quick::read_list(tests::model::Kind::Corridor, size, file)?;
+                let file = &bytes[..Kind::Corridor.bytes(size).min(bytes.len())];
+                Quick::read_list(Kind::Corridor, size, file)?;
             }
             program_size::<Quick>(bytes)
+        }
+    }
+
+    /// The record is looked for behind demands of kind 2, whatever they say they are.
+    FiveReadAsTwo {
+        fn kind_of_file(list: List, _: &[u8]) -> Kind {
+            list.kinds()[0]
+        }
+    }
+
+    /// A record of kind 5 demands is refused.
+    FiveRefused {
+        fn kind_of_length(list: List, size: Size, words: usize) -> Result<Kind, Refusal> {
+            refuse_if(words != list.kinds()[0].words(size), 1, 0, 0)?;
+            Ok(list.kinds()[0])
         }
     }
 }

@@ -1,10 +1,11 @@
 //! Shows that demand 3 and the properties bite: each fails for wrong variants that contradict it.
 
-use super::{files, outputs, steps, wrong};
+use super::{files, outputs, program, records, steps, wrong};
 use std::any::Any;
 use std::panic::{catch_unwind, AssertUnwindSafe};
-use tests::calls::{FileCalls, WordCalls};
+use tests::calls::{FileCalls, Program, WordCalls};
 use tests::demand_three::assert_demand_three;
+use tests::downstream::*;
 use tests::model::{NodeStep, Quick};
 use tests::properties::*;
 
@@ -20,17 +21,35 @@ wrong! { rate_variants: WordCalls;
 /// What a property is asked of, and the names of variants for which it fails.
 type Broken<C> = (fn(&C), &'static [&'static str]);
 
-const OF_WORDS: [Broken<dyn WordCalls>; 6] = [
-    (|calls| assert_vehicles_are_conserved(calls), &["ThroughRoundedDown", "EverythingThrough"]),
+const OF_WORDS: [Broken<dyn WordCalls>; 9] = [
+    (
+        |calls| assert_vehicles_are_conserved(calls),
+        &["ThroughRoundedDown", "EverythingThrough", "AnyFlowLeaves"],
+    ),
     (
         |calls| assert_cost_is_the_sum_over_later_states(calls),
         &["CostIn32Bits", "CostWithStateZero"],
     ),
-    (|calls| assert_merge_is_close_and_fits(calls), &["RampTakesTheRest", "MainlineFirst"]),
+    (
+        |calls| assert_merge_is_close_and_fits(calls),
+        &["RampTakesTheRest", "MainlineFirst", "PartRoundedFirst", "AnyFlowLeaves"],
+    ),
     (|calls| assert_flows_are_monotone_in_the_rate(calls), &["RatesInPairsSwapped"]),
     (
         |calls| assert_held_limit_is_the_smallest(calls),
         &["HeldLimitRoundedDown", "HeldAtLargestLimit"],
+    ),
+    (
+        |calls| assert_flow_out_of_link_n_is_exact(calls),
+        &["AnyFlowLeaves", "FirstWordForEveryStep", "OneLessLeaves", "PartRoundedFirst"],
+    ),
+    (
+        |calls| assert_link_n_keeps_to_its_words(calls),
+        &["EndRoomUntested", "CutFlowHeld", "FullEverywhere"],
+    ),
+    (
+        |calls| assert_kind_two_is_kind_five_completed(calls),
+        &["KindTwoCountsAsOneLess", "DownstreamRefused", "DownstreamBelowWhole"],
     ),
     (
         |calls| assert_demand_three(calls, 400, 4),
@@ -47,14 +66,25 @@ const OF_WORDS: [Broken<dyn WordCalls>; 6] = [
             "MainlineSearchedOnly",
             "HeldLimitRoundedDown",
             "HeldAtLargestLimit",
+            "CutFlowHeld",
+            "EndRoomUntested",
         ],
     ),
 ];
 
-const OF_FILES: [Broken<dyn FileCalls>; 2] = [
+const OF_FILES: [Broken<dyn FileCalls>; 3] = [
     (|calls| assert_files_come_back(calls), &["PaddingUntested", "BytesLeftOver"]),
     (|calls| assert_check_word_sees_any_one_change(calls), &["LastWordNotSummed", "OtherWeights"]),
+    (
+        |calls| assert_kind_two_is_kind_five_completed_in_files(calls),
+        &["FiveReadAsTwo", "FiveNotWritten"],
+    ),
 ];
+
+const OF_PROGRAM: [Broken<dyn Program>; 1] = [(
+    |program| assert_kind_two_is_kind_five_completed_in_program(program),
+    &["FiveReadAsTwo", "FiveRefused"],
+)];
 
 /// What a failed assertion says, in either form that it can have.
 fn text_of(failure: Box<dyn Any + Send>) -> String {
@@ -76,7 +106,9 @@ fn assert_broken<C: ?Sized>(properties: &[Broken<C>], variants: &[(&'static str,
 }
 
 pub fn assert_properties_broken() {
-    let words = [steps::variants(), outputs::variants(), rate_variants()].concat();
+    let words =
+        [steps::variants(), records::variants(), outputs::variants(), rate_variants()].concat();
     assert_broken(&OF_WORDS, &words);
     assert_broken(&OF_FILES, &files::variants());
+    assert_broken(&OF_PROGRAM, &program::variants());
 }

@@ -2,9 +2,10 @@
 
 use super::wrong;
 use tests::calls::WordCalls;
-use tests::model::check::{check_cost, check_fixed, check_steps, step_fault, Proposal};
+use tests::model::check::{check_cost, check_fixed, check_record, check_steps};
+use tests::model::check::{step_fault, Proposal};
 use tests::model::lists::{demand_fault, plan_fault, test_input};
-use tests::model::{refuse_if, Input, Outcome, Quick, WHOLE};
+use tests::model::{refusal, refuse_if, Input, Kind, List, Outcome, Quick, Refusal, Size, WHOLE};
 
 wrong! { variants: WordCalls;
     ThreeBeforeTwo {
@@ -86,6 +87,85 @@ wrong! { variants: WordCalls;
         }
     }
 
+    /// A list of kind 5's length is one of a wrong length.
+    DownstreamRefused {
+        fn kind_of_length(list: List, size: Size, words: usize) -> Result<Kind, Refusal> {
+            refuse_if(words != list.kinds()[0].words(size), 1, 0, 0)?;
+            Ok(list.kinds()[0])
+        }
+    }
+
+    /// Lists of kind 5 only.
+    DownstreamAskedFor {
+        fn kind_of_length(list: List, size: Size, words: usize) -> Result<Kind, Refusal> {
+            let newest = list.kinds()[list.kinds().len() - 1];
+            refuse_if(words != newest.words(size), 1, 0, 0)?;
+            Ok(newest)
+        }
+    }
+
+    /// Kind 5 taken for kind 2: what may leave link N is neither tested nor used.
+    DownstreamPassedOver {
+        fn demand_fault(input: &Input, k: usize, i: usize) -> bool {
+            demand_fault(input, k, i) && !by_word_alone(input, k, i)
+        }
+
+        fn supply(input: &Input, state: &[u32], k: usize, i: usize) -> u64 {
+            match i == input.size.links {
+                true => WHOLE,
+                false => Quick::supply(input, state, k, i),
+            }
+        }
+    }
+
+    DownstreamUntested {
+        fn demand_fault(input: &Input, k: usize, i: usize) -> bool {
+            demand_fault(input, k, i) && !by_word_alone(input, k, i)
+        }
+    }
+
+    DownstreamBelowWhole {
+        fn demand_fault(input: &Input, k: usize, i: usize) -> bool {
+            let whole = input.has_downstream() && input.downstream(k) == WHOLE;
+            demand_fault(input, k, i) || (i == input.size.links && whole)
+        }
+    }
+
+    DownstreamOneMore {
+        fn demand_fault(input: &Input, k: usize, i: usize) -> bool {
+            let one_more = input.downstream(k) == WHOLE + 1;
+            demand_fault(input, k, i) && !(one_more && by_word_alone(input, k, i))
+        }
+    }
+
+    /// The words at the list's end are tested after all of Q and b.
+    DownstreamTestedLast {
+        fn test_input(input: &Input) -> Outcome {
+            test_input::<DownstreamUntested>(input)?;
+            test_input::<Quick>(input)
+        }
+    }
+
+    /// The words at the list's end are tested before all of Q and b.
+    DownstreamTestedFirst {
+        fn test_input(input: &Input) -> Outcome {
+            let outcome = test_input::<Quick>(input);
+            let word = (0..input.size.steps).find(|&k| input.downstream(k) > WHOLE);
+            match (outcome, word) {
+                (Err(Refusal { number: 5, .. }), Some(k)) => Err(refusal(5, k, input.size.links)),
+                _ => outcome,
+            }
+        }
+    }
+
+    /// The word of a step is named at node 0, before the step's Q and b.
+    DownstreamAtTheEntry {
+        fn demand_fault(input: &Input, k: usize, i: usize) -> bool {
+            let by_word = i == 0 && input.downstream(k) > WHOLE;
+            by_word || (demand_fault(input, k, i) && !by_word_alone(input, k, i))
+        }
+    }
+
     LimitOfPlanUntested {
         fn plan_fault(input: &Input, i: usize, rate: u32, limit: u32) -> bool {
             plan_fault(input, i, rate, limit.min(input.node(i).full_speed))
@@ -110,7 +190,7 @@ wrong! { variants: WordCalls;
             let merged = Quick::through(here.flow, here.at.split) as u32;
             let merged = u64::from(merged.wrapping_add(here.ramp_flow as u32));
             match number {
-                9 => here.at.receiving.is_some_and(|room| merged > room),
+                9 => merged > here.at.supply,
                 _ => step_fault::<Quick>(number, here),
             }
         }
@@ -120,6 +200,13 @@ wrong! { variants: WordCalls;
     EntryRoomUntested {
         fn step_fault(number: u32, here: &Proposal) -> bool {
             step_fault::<Quick>(number, here) && (number != 9 || here.at.full_speed > 0)
+        }
+    }
+
+    /// Refusal 9 left out at node N, as where traffic past link N is free.
+    EndRoomUntested {
+        fn check_record(input: &Input, record: &[u32]) -> Outcome {
+            check_record::<DownstreamPassedOver>(input, record)
         }
     }
 
@@ -202,6 +289,11 @@ wrong! { variants: WordCalls;
             check_cost::<Quick>(input, record)
         }
     }
+}
+
+/// Whether a fault of the demands at a place is that of the word at the list's end.
+fn by_word_alone(input: &Input, k: usize, i: usize) -> bool {
+    i == input.size.links && (input.arrivals(k, i), input.split(k, i)) == (0, 0)
 }
 
 fn check_in_order(input: &Input, record: &[u32], numbers: &[u32]) -> Outcome {

@@ -36,7 +36,7 @@ wrong! { variants: WordCalls;
     RampTakesTheRest {
         fn merge(at: &NodeStep, sending: u64, offer: u64) -> (u64, u64) {
             let (flow, ramp_flow) = Quick::merge(at, sending, offer);
-            let left = at.receiving.map_or(offer, |room| room - Quick::through(flow, at.split));
+            let left = at.supply - Quick::through(flow, at.split);
             (flow, left.min(offer).max(ramp_flow))
         }
     }
@@ -45,8 +45,66 @@ wrong! { variants: WordCalls;
     MainlineFirst {
         fn merge(at: &NodeStep, sending: u64, offer: u64) -> (u64, u64) {
             let (flow, _) = Quick::merge(at, sending, 0);
-            let left = at.receiving.map_or(offer, |room| room - Quick::through(flow, at.split));
+            let left = at.supply - Quick::through(flow, at.split);
             (flow, left.min(offer))
+        }
+    }
+
+    /// Without a ramp flow the part that may pass is rounded before it is taken of the flow.
+    PartRoundedFirst {
+        fn merge(at: &NodeStep, sending: u64, offer: u64) -> (u64, u64) {
+            let wanted = Quick::through(sending, at.split);
+            if offer > 0 || wanted <= at.supply {
+                return Quick::merge(at, sending, offer);
+            }
+            (sending * (at.supply * WHOLE / wanted) / WHOLE, 0)
+        }
+    }
+
+    /// Traffic past link N is free.
+    AnyFlowLeaves {
+        fn supply(input: &Input, state: &[u32], k: usize, i: usize) -> u64 {
+            let supply = Quick::supply(input, state, k, i);
+            if i == input.size.links { WHOLE } else { supply }
+        }
+    }
+
+    FirstWordForEveryStep {
+        fn supply(input: &Input, state: &[u32], k: usize, i: usize) -> u64 {
+            let supply = Quick::supply(input, state, k, i);
+            if i == input.size.links { input.downstream(0) } else { supply }
+        }
+    }
+
+    /// The word of the step after; the last has its own.
+    WordOfNextStep {
+        fn supply(input: &Input, state: &[u32], k: usize, i: usize) -> u64 {
+            let supply = Quick::supply(input, state, k, i);
+            let next = (k + 1).min(input.size.steps - 1);
+            if i == input.size.links { input.downstream(next) } else { supply }
+        }
+    }
+
+    /// The word is taken for what may leave the link before as well.
+    WordAtEveryNode {
+        fn supply(input: &Input, state: &[u32], k: usize, i: usize) -> u64 {
+            Quick::supply(input, state, k, i).min(input.downstream(k))
+        }
+    }
+
+    OneLessLeaves {
+        fn supply(input: &Input, state: &[u32], k: usize, i: usize) -> u64 {
+            let supply = Quick::supply(input, state, k, i);
+            let word = i == input.size.links && input.has_downstream();
+            if word { supply.saturating_sub(1) } else { supply }
+        }
+    }
+
+    KindTwoCountsAsOneLess {
+        fn supply(input: &Input, state: &[u32], k: usize, i: usize) -> u64 {
+            let supply = Quick::supply(input, state, k, i);
+            let none = i == input.size.links && !input.has_downstream();
+            if none { WHOLE - 1 } else { supply }
         }
     }
 
@@ -88,12 +146,11 @@ wrong! { variants: WordCalls;
     MergeIn32Bits {
         fn merge(at: &NodeStep, sending: u64, offer: u64) -> (u64, u64) {
             let wanted = Self::through(sending, at.split) + offer;
-            match at.receiving {
-                Some(room) if wanted > room => {
-                    (short_product(sending, room) / wanted, short_product(offer, room) / wanted)
-                }
-                _ => (sending, offer),
+            if wanted <= at.supply {
+                return (sending, offer);
             }
+            let short = |flow| short_product(flow, at.supply) / wanted;
+            (short(sending), short(offer))
         }
     }
 
@@ -133,11 +190,11 @@ wrong! { variants: WordCalls;
         }
     }
 
-    /// The search ends one short of the ramp's capacity.
+    /// The search ends one short of the ramp's capacity, but where there are no vehicles to hold.
     CapacityNotTried {
         fn find_rate(at: &NodeStep, flow: u64, ramp_flow: u64) -> Option<u64> {
             let found = Quick::find_rate(at, flow, ramp_flow);
-            found.filter(|&rate| rate == 0 || rate < at.ramp_capacity)
+            found.filter(|&rate| rate == 0 || rate < at.ramp_capacity || at.vehicles == 0)
         }
     }
 
@@ -162,6 +219,17 @@ wrong! { variants: WordCalls;
         fn setting(at: &NodeStep, flow: u64, ramp_flow: u64) -> Setting {
             let limit = (flow * WHOLE).checked_div(at.vehicles).unwrap_or(0);
             Setting::Held(ramp_flow, limit)
+        }
+    }
+
+    /// Held where less may leave link N than it can send.
+    CutFlowHeld {
+        fn setting(at: &NodeStep, flow: u64, ramp_flow: u64) -> Setting {
+            let cut = at.supply < Quick::sending(at, at.full_speed);
+            match at.ramp_capacity == 0 && cut && flow > 0 {
+                true => Setting::Held(ramp_flow, Quick::held_limit(at, flow)),
+                false => Quick::setting(at, flow, ramp_flow),
+            }
         }
     }
 
