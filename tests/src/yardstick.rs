@@ -3,7 +3,7 @@
 
 use crate::calls::{FileCalls, WordCalls};
 use crate::model::files::{BLOCK_BYTES, CHECK, FIRST_PAYLOAD, PAYLOAD_WORDS};
-use crate::model::lists::{test_input, test_plan};
+use crate::model::lists::{test_corridor, test_plan};
 use crate::model::simulate::{start, write_cost};
 use crate::model::{Input, Kind, List, Node, Quick, Size};
 
@@ -12,8 +12,16 @@ pub struct Yardstick;
 /// The nodes of an input that refusals 1 to 5 let pass.
 fn accepted<'a>(corridor: &'a [u32], demands: &'a [u32]) -> Option<(Input<'a>, Vec<Node>)> {
     let input = Input::new(corridor, demands).ok()?;
-    test_input::<Quick>(&input).ok()?;
-    Some((input, (0..input.size.nodes()).map(|i| input.node(i)).collect()))
+    test_corridor::<Quick>(&input).ok()?;
+    let nodes = (0..input.size.nodes()).map(|i| input.node(i)).collect();
+    sound_demands(input.size, demands).then_some((input, nodes))
+}
+
+/// Whether refusal 5 lets demands of either kind pass.
+fn sound_demands(size: Size, demands: &[u32]) -> bool {
+    let mut rows = demands[1..size.demands()].chunks_exact(2 * size.nodes());
+    demands[1..].iter().all(|&word| word <= 65_536)
+        && rows.all(|row| (row[1], row[2 * size.links], row[2 * size.links + 1]) == (0, 0, 0))
 }
 
 /// One node at one step, with all that does not depend on rate and limit worked out.

@@ -183,13 +183,19 @@ pub fn same_length(length: usize, wanted: usize) -> Outcome {
     refuse_if(length != wanted, 1, 0, 0)
 }
 
-/// Refusals 2 to 5, each over the whole input before the next.
-pub fn test_input<R: Rules>(input: &Input) -> Outcome {
+/// Refusals 2 to 4, each over all nodes before the next.
+pub fn test_corridor<R: Rules>(input: &Input) -> Outcome {
     for number in R::CORRIDOR_ORDER {
         for i in 0..input.size.nodes() {
             refuse_if(R::node_fault(number, input, i), number, 0, i)?;
         }
     }
+    Ok(())
+}
+
+/// Refusals 2 to 5, each over the whole input before the next.
+pub fn test_input<R: Rules>(input: &Input) -> Outcome {
+    test_corridor::<R>(input)?;
     for k in 0..input.size.steps {
         for i in 0..input.size.nodes() {
             refuse_if(R::demand_fault(input, k, i), 5, k, i)?;
