@@ -22,10 +22,10 @@ use Rattle.payload.specs.Reading.{lengthAnswer, blockAnswer, paddingAnswer, pay
 use Rattle.block.specs.Kinds.{kindNumber, listLength, ownAgrees, kindWord, fileKind}
 use Rattle.block.specs.Calls.{fileAnswer}
 use Rattle.files.specs.Files.{filesAnswer, readThenCheck}
 use Rattle.printed.specs.Input.{linksIn, demandsBlock, stepsIn, demandsKind, recordBlock, endBlock, inputAnswer}
 use Rattle.printed.specs.Text.{decimalIn, decimal, spaced, planWord, refusedWord, letter, refusedLine, inputRoad, inputTrace, headLine, settingLine, planLine, linesOf, stepText, planText, printed}
-use Rattle.printed.specs.Cases.{Cases}
+use Rattle.printed_cases.specs.Cases.{Cases}
 
 pub cases : Cases
 unfolding first cell grid rowWords leastFrom sum tabulate sending exit through offer receiving passed merge flowsWith outflow moved supply junction inflow next cost fullFlows gives rateFor heldLimit settingFor linksOf nodeAt stepsOf roadOf traceOf demandsSized sizes linkFault fresh rampFault startFault demandFault linkRefusal rampRefusal startRefusal demandRefusal ranges fixedFault stepFault totalFault costFault judged settingAt checkAnswer wordAt checkWord bodyWord blockWord fileOf payloadWord lengthAnswer blockAnswer paddingAnswer payloadAnswer kindNumber listLength ownAgrees kindWord fileKind fileAnswer filesAnswer readThenCheck linksIn demandsBlock stepsIn demandsKind recordBlock endBlock inputAnswer decimalIn decimal spaced planWord refusedWord letter refusedLine inputRoad inputTrace headLine settingLine planLine linesOf stepText planText printed
-cases = record { case-1 = refl; case-5 = refl; held-at-node-2 = refl }
+cases = record { case-1 = refl; case-5 = refl; held-at-node-2 = refl; refused-at-node-2 = refl }
