@@ -26,13 +26,16 @@ impl fmt::Display for Verdict {
 }
 
 /// Words of errors that say that a fact was looked for and not found.
-const FACT: [&str; 8] = [
+const FACT: [&str; 11] = [
     "`search`: no proof of",
     // the same in a function that has no proof file
     "`search` does not close",
     "`omega`: ",
     "`omega` stopped at a bound of its own",
+    "`omega` found no proof",
+    "`cc` met a bound of its own before the equations had joined",
     "`simp` has no last argument, so what it leaves must be a path",
+    "`rw` has no last argument, so what it leaves must be a path",
     // an equation of the proof that is of another value than the goal
     "`rw`: no occurrence of the path's",
     // two sides of an equation, compared late
@@ -42,7 +45,7 @@ const FACT: [&str; 8] = [
 ];
 
 /// Words of errors that say that code and proof no longer fit each other, whatever is true of the code.
-const SHAPE: [&str; 6] = [
+const SHAPE: [&str; 7] = [
     // the code itself is refused before any proof: a type, a literal out of range
     "error[",
     // the proof names a branch, a call or a loop of the code that is not there
@@ -52,6 +55,8 @@ const SHAPE: [&str; 6] = [
     // the proof gives or takes several facts where the contract now has one
     "which is not a `×` type",
     "projects from a `×` type or a record",
+    // the proof leaves a number to be told by the code, which no longer tells it
+    "this entry's type is not yet determined",
     // a function without a proof file for which Rattle makes none, and names no fact that it lacks
     ": no proof: expected",
 ];
@@ -173,6 +178,9 @@ mod tests {
             "proofs/inner/place/put_run/Proof.antt:19:5: error: `put-word-requires`: `omega` stopped at a bound of its own: eliminating one atom",
             "proofs/inner/calls/told_fits/Proof.antt:9:13: error: `returns`: `rw`: no occurrence of the path's right endpoint in the goal",
             "proofs/inner/gives/Proof.antt:10:13: error: `returns`: give a proof of that as the last argument, `simp L t`\n  `simp` has no last argument, so what it leaves must be a path whose two ends are equal",
+            "proofs/inner/kinds/own_agrees/Proof.antt:9:13: error: `returns`: give a proof of that as the last argument, `rw L t`\n  `rw` has no last argument, so what it leaves must be a path whose two ends are equal",
+            "proofs/inner/kinds/list_kind/Proof.antt:13:61: error: `returns-2`: list the missing equation with its arguments\n  `cc` met a bound of its own before the equations had joined `r` and `s`",
+            "proofs/inner/unpacked/downstream/Proof.antt:13:5: error: `word-of-requires`: `omega` found no proof, and no values at which the goal fails",
             "proofs/Rates.antt:40:54: error: `reaches-facts`: `reaches junction` ≟ `leb a b && leb c d`\n  does not hold (this comparison, made at this position, had to wait",
             "proofs/sized/Proof.antt:7:63: error: `sized-spec`: computed as far as they go, the two values are `c .refusal .result` (found) and `Answer.refusal (unless fits 1) 0 0`",
             "fn lists::inner::words::node_word: no proof: expected `node-word-spec` in ./proofs/inner/words/node_word/Proof.antt; `search` does not close `returns`",
@@ -187,6 +195,7 @@ mod tests {
             "src/inner.rt:72:24: error[mismatched-types]: expected `Flows`, found `Units`",
             "proofs/inner/held_limit/Proof.antt:17:115: error: `returns`: record `held_limit.Lts.After-struct-known2`\n  has no field `if1`",
             "proofs/inner/share/Proof.antt:15:96: error: `share-spec`: a tuple is checked against `Reads.Post`\n  which is not a `×` type",
+            "proofs/inner/unpacked/downstream/Proof.antt:13:19: error: `word-of-requires`: replace that `_` with the term it stands for\n  this entry's type is not yet determined",
             "fn trial::say::put: no proof: expected `put-spec` in proofs/say/put/Proof.antt; the borrow checker does not cover this function yet",
             "proofs/inner/held_limit/Proof.antt:20:12: error: `cast-t10`: `tie.Need-cast-t10`: module `held_limit.Tie` has no `Need-cast-t10` that can be named from here",
         ] {
