@@ -1,4 +1,4 @@
-/* Every call of the header once, on B, document 01's worked corridor: case 1 simulated, checked, converted and brought to normal form, by words,
+/* Every call of the header at least once, on B, the corridor that docs/MODEL.md works through: case 1 simulated, checked, converted and brought to normal form, by words,
  * by nodes and by files; then with demands of kind 5, which let 70 units out of link 2. It prints nothing and ends with status 0 where all is as worked there. */
 #include "gigorchid.h"
 

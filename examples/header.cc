@@ -16,6 +16,7 @@ static_assert(GIGORCHID_FILE_BYTES(188641) == 773120, "file of demands of kind 5
 static_assert(GIGORCHID_FILE_BYTES(187200) == 766976, "file of a plan");
 static_assert(GIGORCHID_FILE_BYTES(374662) == 1534976, "file of a record");
 static_assert(GIGORCHID_FILE_BYTES(125) == GIGORCHID_BLOCK_BYTES && GIGORCHID_FILE_BYTES(126) == 2 * GIGORCHID_BLOCK_BYTES, "full block");
+static_assert(GIGORCHID_VERSION == 10000 * GIGORCHID_VERSION_MAJOR + 100 * GIGORCHID_VERSION_MINOR + GIGORCHID_VERSION_PATCH, "version");
 static_assert(sizeof(gigorchid_node) == 9 * sizeof(uint32_t), "a node has nine words");
 
 // The version's text has its three numbers.

@@ -50,16 +50,17 @@
  * ---- Lists: the order of their words ----
  *
  *     corridor  N, then for each node 0..N:                     identifier, F, V, W, J, C, L, n, l
- *     demands   K, then for each step 0..K-1, each node 0..N:   Q, b; of kind 5 then for each step 0..K-1: P
+ *     demands   K, then for each step 0..K-1, each node 0..N:   Q, b; of kind 5 then, after all steps, for each step 0..K-1: P
  *     plan      for each step 0..K-1, each node 0..N:           rate, limit
  *     record    for each state 0..K, each node 0..N:            n, l, f, r; then the cost, 2 words
  *
  * At node i F, V, W, J, n, f and limit are those of link i; C, L, l, r, Q and rate those of its on-ramp; b that of its off-ramp.
  * Fixed at zero: F, V, W, J, n, f, b and limit of node 0; C, L, l, r, Q, b and rate of node N; every f and r of state K.
  *
- * Demands are of kind 2, or of kind 5, for a corridor behind which traffic backs up. In a list the count of its words tells which, in a file
- * the first word of the file: 5 is kind 5, and any other, or a file of fewer than 4 bytes, is read as kind 2. Every call takes both. Kind 2 is
- * kind 5 with P = 65,536 in every step, as much as any link sends: traffic past link N is free.
+ * Demands are of kind 2, or of kind 5, for a corridor past whose last link traffic may queue. P of step k is word 1 + 2 x K x (N + 1) + k of
+ * the list, its words counted from 0. In a list the count of its words tells the kind, in a file its first word: 5 is kind 5, and any other, or
+ * a file of fewer than 4 bytes, is read as kind 2. Every call takes both. Kind 2 is kind 5 with P = 65,536 in every step, the most that any
+ * link can send: traffic past link N is free.
  *
  * ---- A step, at node i; every quotient is rounded down ----
  *
@@ -93,9 +94,10 @@ extern "C" {
 #endif
 
 /* How many words each list has for N links and K steps, and how many bytes a file of so many words has. Every count that is lent, an output's
- * too, is just this: one more or one less is refused, by 1, and in a file that is read by 14. The macros give a size_t, take each argument
- * once, and are constants where their arguments are, though not in #if. They test nothing and may wrap: see that N and K are in range first.
- * The longest lists, for 64 links and 1,440 steps:
+ * too, is just this: any other is refused, by 1, and in a file that is read by 14. GIGORCHID_DEMANDS_WORDS is for demands of kind 2,
+ * GIGORCHID_DEMANDS_5_WORDS for those of kind 5, K words more; so where K is 1, a list of kind 2 with one word too many is one of kind 5. The
+ * macros give a size_t, take each argument once, and are constants where their arguments are, though not in #if. They test nothing and may
+ * wrap: see that N and K are in range first. The longest lists, for 64 links and 1,440 steps:
  *
  *                        words     bytes of its file
  *     corridor               586       2,560
@@ -151,7 +153,7 @@ static inline size_t gigorchid_demands_words(uint32_t n, uint32_t k, const uint8
     ENTRY(GIGORCHID_BAD_COST, 13, "the cost is not the sum of all n and l over states 1..K")                                                       \
     ENTRY(GIGORCHID_BAD_FILE_LENGTH, 14, "the file has not the bytes that N, K and its kind ask for")                                               \
     ENTRY(GIGORCHID_BAD_CHECK_WORD, 15, "the block's check word is wrong")                                                                         \
-    ENTRY(GIGORCHID_BAD_KIND, 16, "the block's kind is not that of the file asked for")                                                            \
+    ENTRY(GIGORCHID_BAD_KIND, 16, "the block's kind is not that of its file, or the file is of another list")                                      \
     ENTRY(GIGORCHID_BAD_BLOCK_NUMBER, 17, "the block's number is not its place in the file")                                                       \
     ENTRY(GIGORCHID_BAD_PADDING, 18, "the block's padding is not zero")
 
@@ -188,7 +190,8 @@ uint32_t gigorchid_check_words(const uint32_t *corridor, size_t corridor_words,
                                const uint32_t *record, size_t record_words);
 
 /* The same, and fills `plan` with a plan that has the record: for each node at each step limit V and the smallest rate that gives f and r with
- * it, or, if no rate does, rate r and the smallest limit that sends f. */
+ * it, or, if no rate does, rate r and the smallest limit that sends f. At node N the rate is 0, and the limit V exactly where f = min(D, P) at
+ * full speed, also where it is P that cuts what link N sends; it is lower only where f is less still. */
 uint32_t gigorchid_convert_words(const uint32_t *corridor, size_t corridor_words,
                                  const uint32_t *demands, size_t demands_words,
                                  const uint32_t *record, size_t record_words,
@@ -240,8 +243,8 @@ uint32_t gigorchid_normal_nodes(const struct gigorchid_node *corridor, size_t no
  *
  * A reader answers 1 for a bad N or K or a wrong count of words, which for demands is any but that of the file's kind; then 14, then 15, 16,
  * 17 block by block, then 18, then 1 if the file's own N or K, the first word of a corridor and of demands, is another. A writer answers 1 for
- * a bad N or K, a wrong count of bytes or words, or a list whose own N or K is another; it tests no other word. N and K are tested for 1..64
- * and 1..1,440 even where a list does not depend on them. */
+ * a bad N or K, a wrong count of bytes or words, or a list whose own N or K is another; it tests no other word. The count of words of demands
+ * tells their kind, and with it the count of bytes. N and K are tested for 1..64 and 1..1,440 even where a list does not depend on them. */
 uint32_t gigorchid_read_corridor(uint32_t n, uint32_t k, const uint8_t *file, size_t bytes, uint32_t *words, size_t count);
 uint32_t gigorchid_read_demands(uint32_t n, uint32_t k, const uint8_t *file, size_t bytes, uint32_t *words, size_t count);
 uint32_t gigorchid_read_record(uint32_t n, uint32_t k, const uint8_t *file, size_t bytes, uint32_t *words, size_t count);
@@ -256,8 +259,10 @@ uint32_t gigorchid_write_plan(uint32_t n, uint32_t k, const uint32_t *words, siz
  * They answer 1 for a bad N or K or a wrong count of plan bytes, then what the readers of corridor, demands and record answer in turn, then
  * what the call on words answers. So 1 and 14 to 18 do not tell which file they speak of. To learn it:
  *   - See that N is 1..64, K is 1..1,440 and plan_bytes is as below; else that is the fault.
- *   - Call the three readers in this order: the first that refuses has the file, and its answer is the same number (examples/host.c does so).
- *   - Of 1 and 14, N or K itself may be wrong: compare them with bytes 8..11 of the corridor's and of the demands' file. */
+ *   - Call the three readers in this order, the second with gigorchid_demands_words of its file: the first that refuses has the file, and its
+ *     answer is the same number (examples/host.c does so).
+ *   - Of 1 and 14, N or K itself may be wrong: compare them with bytes 8..11 of the corridor's and of the demands' file. So may the first word
+ *     of the demands, which chooses their kind. */
 uint32_t gigorchid_check_files(uint32_t n, uint32_t k,
                                const uint8_t *corridor, size_t corridor_bytes,
                                const uint8_t *demands, size_t demands_bytes,

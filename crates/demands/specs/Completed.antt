@@ -1,5 +1,5 @@
 -- An older kind is the newer one completed (request 01): demands of kind 2, and those of kind 5 with 65,536 for every step, have the same answers
--- and the same outputs in every call. The calls on a slice of nodes are those on lists at the nodes' words.
+-- and the same outputs in every call that computes with them. The calls on a slice of nodes are those on lists at the nodes' words.
 use Prim.Native.Nat.{ℕ}
 use mathlib.Core.List.{List, _++_}
 use mathlib.Core.Path.{_≡_}
