@@ -12,13 +12,31 @@ abbrev pub implies : Bool → Bool → Bool
 implies true b = b
 implies false b = true
 
--- ---- 2. F, V, W or J out of range, or not zero at node 0
+-- ---- 2. F, V, W, J, dropped capacity or drop density out of range, or not zero at node 0
+
+abbrev pub noLink : Link → Bool
+noLink link =
+    eqb (link .capacity) 0
+    && (eqb (link .fullSpeed) 0
+    && (eqb (link .waveSpeed) 0
+    && (eqb (link .jam) 0
+    && (eqb (link .droppedCapacity) 0
+    && eqb (link .dropDensity) 0))))
+
+abbrev pub dropInRange : Link → Bool
+dropInRange link = leb (link .droppedCapacity) (link .capacity) && leb (link .dropDensity) (link .jam)
+
+abbrev pub linkInRange : Link → Bool
+linkInRange link =
+    leb (link .capacity) 65536
+    && (within 1 65536 (link .fullSpeed)
+    && (within 1 65536 (link .waveSpeed)
+    && (within 1 65536 (link .jam)
+    && dropInRange link)))
 
 unfoldable pub linkFault : ℕ → Link → ℕ
-linkFault zero link =
-    unless (eqb (link .capacity) 0 && (eqb (link .fullSpeed) 0 && (eqb (link .waveSpeed) 0 && eqb (link .jam) 0))) 2
-linkFault (suc i) link =
-    unless (leb (link .capacity) 65536 && (within 1 65536 (link .fullSpeed) && (within 1 65536 (link .waveSpeed) && within 1 65536 (link .jam)))) 2
+linkFault zero link = unless (noLink link) 2
+linkFault (suc i) link = unless (linkInRange link) 2
 
 -- ---- 3. identifier zero or repeated, C or L out of range, or not zero at node N
 

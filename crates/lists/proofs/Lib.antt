@@ -1,3 +1,4 @@
+pub mod Corridors
 pub mod Rows
 pub mod Downstream
 pub mod Identifiers

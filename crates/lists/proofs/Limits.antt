@@ -19,10 +19,18 @@ use Rattle.road.specs.Corridor.{Link, Ramp, Node, Road, Plan, nodes}
 use Rattle.road.specs.Limits.{Within, LinkLimits, NoLink, RampLimits, NoRamp, StartLimits, Identified, DemandLimits, Limits, Bounds, Bounded}
 use Rattle.lists.specs.Words.{linksOf, stepsOf, roadOf, corridorLength, demandsLength, downstreamLength}
 use Rattle.faults.specs.Lists.{linkFault, rampFault, startFault, demandFault, planFault}
-use Rattle.lists.specs.Refusals.{demandsSized, sizes, fresh, linkRefusal, rampRefusal, startRefusal, demandRefusal, ranges, bounds, limits}
+use Rattle.lists.specs.Refusals.{corridorSized, demandsSized, sizes, fresh, linkRefusal, rampRefusal, startRefusal, demandRefusal, ranges, bounds, limits}
 use Rattle.faults.proofs.Tests.{le-holds, eq-holds, both-hold, one-holds, implies-holds, within-holds, no-fault}
 
 -- ---- 1. N, K and the lengths of the two lists
+
+-- the length of a corridor is that of kind 1, or that of kind 10
+abbrev pub CorridorSized : ℕ → ℕ → Type 0
+CorridorSized links count = (count ≡ corridorLength 9 links) ⊎ (count ≡ corridorLength 11 links)
+
+corridor-sized-iff : (links count : ℕ) → (corridorSized links count ≡ true) ↔ CorridorSized links count
+unfolding corridorSized
+corridor-sized-iff links count = one-holds _ _ (eq-holds count (corridorLength 9 links)) (eq-holds count (corridorLength 11 links))
 
 -- the length of demands is that of kind 2, or that of kind 5
 abbrev pub DemandsSized : ℕ → ℕ → ℕ → Type 0
@@ -35,7 +43,7 @@ demands-sized-iff links steps count = one-holds _ _ (eq-holds count (demandsLeng
 pub record Sizes (corridor demands : List ℕ) : Type 0 where
   pub links : Within 1 64 (linksOf corridor)
   pub steps : Within 1 1440 (stepsOf demands)
-  pub corridorFits : length corridor ≡ corridorLength (linksOf corridor)
+  pub corridorFits : CorridorSized (linksOf corridor) (length corridor)
   pub demandsFit : DemandsSized (linksOf corridor) (stepsOf demands) (length demands)
 
 pub sizes-iff : (corridor demands : List ℕ) → (sizes corridor demands ≡ true) ↔ Sizes corridor demands
@@ -43,7 +51,7 @@ unfolding sizes
 sizes-iff corridor demands =
     let r = both-hold _ _ (within-holds 1 64 (linksOf corridor))
     (both-hold _ _ (within-holds 1 1440 (stepsOf demands))
-    (both-hold _ _ (eq-holds (length corridor) (corridorLength (linksOf corridor)))
+    (both-hold _ _ (corridor-sized-iff (linksOf corridor) (length corridor))
     (demands-sized-iff (linksOf corridor) (stepsOf demands) (length demands)))) in (
       λ e. let h = r .0 e in record { links = h .0; steps = h .1 .0; corridorFits = h .1 .1 .0; demandsFit = h .1 .1 .1 },
       λ s. r .1 (s .links, (s .steps, (s .corridorFits, s .demandsFit))),
@@ -64,9 +72,20 @@ unfolding linkFault
 entry-iff link =
     let r = no-fault _ 2 (λ e. omega arith)
     (both-hold _ _ (eq-holds (link .capacity) 0)
-    (both-hold _ _ (eq-holds (link .fullSpeed) 0) (both-hold _ _ (eq-holds (link .waveSpeed) 0) (eq-holds (link .jam) 0)))) in (
-      λ e. let h = r .0 e in record { capacity = h .0; fullSpeed = h .1 .0; waveSpeed = h .1 .1 .0; jam = h .1 .1 .1 },
-      λ s. r .1 (s .capacity, (s .fullSpeed, (s .waveSpeed, s .jam))),
+    (both-hold _ _ (eq-holds (link .fullSpeed) 0)
+    (both-hold _ _ (eq-holds (link .waveSpeed) 0)
+    (both-hold _ _ (eq-holds (link .jam) 0)
+    (both-hold _ _ (eq-holds (link .droppedCapacity) 0) (eq-holds (link .dropDensity) 0)))))) in (
+      λ e. let h = r .0 e in
+          record {
+            capacity = h .0;
+            fullSpeed = h .1 .0;
+            waveSpeed = h .1 .1 .0;
+            jam = h .1 .1 .1 .0;
+            droppedCapacity = h .1 .1 .1 .1 .0;
+            dropDensity = h .1 .1 .1 .1 .1;
+          },
+      λ s. r .1 (s .capacity, (s .fullSpeed, (s .waveSpeed, (s .jam, (s .droppedCapacity, s .dropDensity))))),
     )
 
 link-iff : (i : ℕ) (link : Link) → (linkFault (suc i) link ≡ 0) ↔ LinkLimits link
@@ -74,9 +93,20 @@ unfolding linkFault
 link-iff i link =
     let r = no-fault _ 2 (λ e. omega arith)
     (both-hold _ _ (le-holds (link .capacity) 65536)
-    (both-hold _ _ (within-holds 1 65536 (link .fullSpeed)) (both-hold _ _ (within-holds 1 65536 (link .waveSpeed)) (within-holds 1 65536 (link .jam))))) in (
-      λ e. let h = r .0 e in record { capacity = h .0; fullSpeed = h .1 .0; waveSpeed = h .1 .1 .0; jam = h .1 .1 .1 },
-      λ s. r .1 (s .capacity, (s .fullSpeed, (s .waveSpeed, s .jam))),
+    (both-hold _ _ (within-holds 1 65536 (link .fullSpeed))
+    (both-hold _ _ (within-holds 1 65536 (link .waveSpeed))
+    (both-hold _ _ (within-holds 1 65536 (link .jam))
+    (both-hold _ _ (le-holds (link .droppedCapacity) (link .capacity)) (le-holds (link .dropDensity) (link .jam))))))) in (
+      λ e. let h = r .0 e in
+          record {
+            capacity = h .0;
+            fullSpeed = h .1 .0;
+            waveSpeed = h .1 .1 .0;
+            jam = h .1 .1 .1 .0;
+            droppedCapacity = h .1 .1 .1 .1 .0;
+            dropDensity = h .1 .1 .1 .1 .1;
+          },
+      λ s. r .1 (s .capacity, (s .fullSpeed, (s .waveSpeed, (s .jam, (s .droppedCapacity, s .dropDensity))))),
     )
 
 pub record LinksWithin (road : Road) : Type 0 where
@@ -277,7 +307,7 @@ bounds-iff road plan =
 -- ---- 1 to 5: within limits
 
 pub record WithinLimits (corridor demands : List ℕ) : Type 0 where
-  pub corridorFits : length corridor ≡ corridorLength (linksOf corridor)
+  pub corridorFits : CorridorSized (linksOf corridor) (length corridor)
   pub demandsFit : DemandsSized (linksOf corridor) (stepsOf demands) (length demands)
   pub road : Limits (roadOf corridor demands)
 

@@ -10,10 +10,11 @@ use native.Mathlib.Omega.{arith}
 use borrow.Author.Tests.{eq-eqb, ne-eqb}
 use lib.Dec.{eqb}
 use lib.ListN.{length}
-use Rattle.lists.specs.Words.{linksOf, stepsOf, corridorLength, demandsLength, downstreamLength, planLength}
+use Rattle.lists.specs.Words.{linksOf, stepsOf, demandsLength, downstreamLength, planLength}
 use Rattle.lists.specs.Refusals.{demandsSized, sizes}
 use Rattle.lists.specs.Fits.{CorridorFits, DemandsFit}
 use Rattle.lists.specs.Scans.{lengthsFit}
+use Rattle.lists.proofs.Corridors.{sized-words}
 use Rattle.lists.proofs.Limits.{DemandsSized, sizes-iff}
 
 pub sizes-are : (corridor demands : List ℕ) (links steps : ℕ) (r : Bool) → links ≡ linksOf corridor → steps ≡ stepsOf demands
@@ -46,7 +47,7 @@ module _ (links steps count rows : ℕ) (e : rows ≡ steps * ((links + 1) * 2))
 pub corridor-fits : (corridor demands : List ℕ) (links : ℕ) → sizes corridor demands ≡ true → links ≡ linksOf corridor → CorridorFits corridor links
 corridor-fits corridor demands links e n =
     let s = sizes-iff corridor demands .0 e in
-    record { first = n; few = omega (arith, s .links); words = s .corridorFits ∙ ap corridorLength (sym n) }
+    record { first = n; few = omega (arith, s .links); words = rw n (sized-words (linksOf corridor) (length corridor) (s .corridorFits)) }
 
 -- either kind has the words of kind 2
 pub demands-long : (links steps count : ℕ) → DemandsSized links steps count → demandsLength links steps ≤ count

@@ -4,18 +4,14 @@ use Prim.Native.Nat.{ℕ, suc, _+_, _*_, _≤_}
 use mathlib.Core.Path.{_≡_}
 use mathlib.Core.List.{List}
 use lib.ListN.{length}
-use Rattle.lists.specs.Words.{linksOf, stepsOf, nodeAt, corridorLength, demandsLength}
+use Rattle.lists.specs.Words.{linksOf, stepsOf, nodeAt, corridorLength, nodeWidth, demandsLength}
 use Rattle.lists.specs.Rows.{stateIn}
 
--- the corridor's list has the words that its N tells
+-- the corridor's list has the words that its N tells, in its kind
 pub record CorridorFits (corridor : List ℕ) (links : ℕ) : Type 0 where
   pub first : links ≡ linksOf corridor
   pub few : links ≤ 64
-  pub words : length corridor ≡ corridorLength links
-
--- node i's words are in the corridor's list
-abbrev pub NodeFits : List ℕ → ℕ → Type 0
-NodeFits corridor i = 1 + (i * 9 + 9) ≤ length corridor
+  pub words : length corridor ≡ corridorLength (nodeWidth links (length corridor)) links
 
 -- the demands' list has at least the words of kind 2, which N and its K tell
 pub record DemandsFit (demands : List ℕ) (links steps : ℕ) : Type 0 where

@@ -14,6 +14,10 @@ use Rattle.lists.specs.Words.{linksOf, stepsOf, roadOf, planOf, corridor
 
 -- ---- 1. N, K or any list's length wrong
 
+-- the length of a corridor: that of kind 1, or that of kind 10
+unfoldable pub corridorSized : ℕ → ℕ → Bool
+corridorSized links count = eqb count (corridorLength 9 links) || eqb count (corridorLength 11 links)
+
 -- the length of demands: that of kind 2, or that of kind 5
 unfoldable pub demandsSized : ℕ → ℕ → ℕ → Bool
 demandsSized links steps count = eqb count (demandsLength links steps) || eqb count (downstreamLength links steps)
@@ -22,7 +26,7 @@ unfoldable pub sizes : List ℕ → List ℕ → Bool
 sizes corridor demands =
     within 1 64 (linksOf corridor)
     && (within 1 1440 (stepsOf demands)
-    && (eqb (length corridor) (corridorLength (linksOf corridor))
+    && (corridorSized (linksOf corridor) (length corridor)
     && demandsSized (linksOf corridor) (stepsOf demands) (length demands)))
 
 -- ---- 3. identifier repeated

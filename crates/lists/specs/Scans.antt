@@ -10,16 +10,16 @@ use Rattle.tables.specs.First.{firstNode, firstPlace}
 use Rattle.tables.specs.Grid.{place}
 use Rattle.lists.specs.declared.inner.scans.NodeTest.{NodeTest}
 use Rattle.lists.specs.declared.inner.scans.NodeTest.the-variants.{Link, Ramp, Start, Demand, Plan}
-use Rattle.lists.specs.Words.{nodeAt, corridorLength, free}
+use Rattle.lists.specs.Words.{nodeAt, free}
 use Rattle.faults.specs.Lists.{within, linkFault, rampFault, startFault, demandFault, planFault}
-use Rattle.lists.specs.Refusals.{demandsSized, fresh}
+use Rattle.lists.specs.Refusals.{corridorSized, demandsSized, fresh}
 use Rattle.lists.specs.Fits.{RowFits}
 
 -- 1, of numbers
 unfoldable pub lengthsFit : ℕ → ℕ → ℕ → ℕ → Bool
 lengthsFit links steps corridor demands =
     within 1 64 links
-    && (within 1 1440 steps && (eqb corridor (corridorLength links) && demandsSized links steps demands))
+    && (within 1 1440 steps && (corridorSized links corridor && demandsSized links steps demands))
 
 -- what a test finds at node i: 2, 3 or 4 in the corridor's words; 5 or 6 in the node's two words in a row of the demands or of a plan, and 5
 -- in the row's flow that may leave link N

@@ -1,19 +1,40 @@
 -- The word lists of document 01: where each word stands, how long each list is, and what corridor, demands, plan and record the words say.
 use Prim.Native.Nat.{ℕ, zero, suc, _+_, _*_, _/_, _%_, _≤_}
 use mathlib.Core.List.{List, [], _∷_, _++_}
-use lib.ListN.{getD}
+use mathlib.Core.Bool.{cond}
+use lib.Dec.{eqb}
+use lib.ListN.{length, getD}
 use Rattle.tables.specs.Grid.{grid, place}
 use Rattle.road.specs.Corridor.{Node, NodeState, Flows, Road, Plan, Trace, nodes}
 use Rattle.road.specs.Run.{cost}
 
--- ---- Corridor: N, then for nodes 0..N: identifier, F, V, W, J, C, L, starting n, starting l
+-- ---- Corridor: N, then for nodes 0..N: identifier, F, V, W, J, C, L, starting n, starting l; in kind 10 also dropped capacity and drop density
 
 unfoldable pub linksOf : List ℕ → ℕ
 linksOf corridor = getD corridor 0 0
 
+-- the words of N and of nodes 0..N, where a node has `width` words: 9 in kind 1, 11 in kind 10
+abbrev pub corridorLength : ℕ → ℕ → ℕ
+corridorLength width links = 1 + suc links * width
+
+-- of two numbers the one for kind 10, where the corridor has its length for this N, and else the one for kind 1
+unfoldable pub byKind : ℕ → ℕ → ℕ → ℕ → ℕ
+byKind links count dropped plain = cond (eqb count (corridorLength 11 links)) dropped plain
+
+-- the words of a node
+abbrev pub nodeWidth : ℕ → ℕ → ℕ
+nodeWidth links count = byKind links count 11 9
+
+-- where a node's dropped capacity and its drop density stand among its words: kind 1 has neither, and its F and its J count as them
+abbrev pub droppedPlace : ℕ → ℕ → ℕ
+droppedPlace links count = byKind links count 9 1
+
+abbrev pub densityPlace : ℕ → ℕ → ℕ
+densityPlace links count = byKind links count 10 4
+
 -- word q of node i
 abbrev pub corridorWord : List ℕ → ℕ → ℕ → ℕ
-corridorWord corridor i q = getD corridor (1 + (i * 9 + q)) 0
+corridorWord corridor i q = getD corridor (1 + (i * nodeWidth (linksOf corridor) (length corridor) + q)) 0
 
 unfoldable pub nodeAt : List ℕ → ℕ → Node
 nodeAt corridor i =
@@ -25,6 +46,8 @@ nodeAt corridor i =
             fullSpeed = corridorWord corridor i 2;
             waveSpeed = corridorWord corridor i 3;
             jam = corridorWord corridor i 4;
+            droppedCapacity = corridorWord corridor i (droppedPlace (linksOf corridor) (length corridor));
+            dropDensity = corridorWord corridor i (densityPlace (linksOf corridor) (length corridor));
           };
       ramp = record { capacity = corridorWord corridor i 5; queueLimit = corridorWord corridor i 6 };
       start = record { vehicles = corridorWord corridor i 7; queue = corridorWord corridor i 8 };
@@ -121,9 +144,6 @@ unfoldable pub recordWords : ℕ → Road → Trace → List ℕ
 recordWords width road trace = traceWords width road trace ++ lowHigh (cost road trace)
 
 -- ---- lengths
-
-abbrev pub corridorLength : ℕ → ℕ
-corridorLength links = 1 + suc links * 9
 
 abbrev pub planLength : ℕ → ℕ → ℕ
 planLength links steps = steps * (suc links * 2)

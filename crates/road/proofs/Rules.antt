@@ -7,7 +7,7 @@ use native.Mathlib.Omega.{arith}
 use borrow.Author.Tests.{le-leb, lt-leb}
 use Rattle.tables.proofs.Numbers.{le-or-lt}
 use Rattle.road.specs.Corridor.{Link, Ramp, NodeState, Flows}
-use Rattle.road.specs.Step.{Junction, sending, exit, through, offer, receiving, passed, merge, flowsWith, outflow}
+use Rattle.road.specs.Step.{Junction, discharge, sending, exit, through, offer, receiving, passed, merge, flowsWith, outflow}
 use Rattle.road.proofs.Quotients.{share-le, share-le-part, quotient-falls, product-splits, product-grows, ceiling, ceiling-reaches, ceiling-near, ceiling-least}
 
 -- ---- values are equal by their numbers
@@ -25,9 +25,33 @@ pub sending-le : (link : Link) (vehicles limit : ℕ) → limit ≤ 65536 → se
 unfolding sending
 sending-le link vehicles limit h = omega (arith, share-le vehicles limit 65536 h)
 
-pub sending-capacity : (link : Link) (vehicles limit : ℕ) → sending link vehicles limit ≤ link .capacity
+pub discharge-within : (link : Link) (vehicles : ℕ) → vehicles ≤ link .dropDensity → discharge link vehicles ≡ link .capacity
+unfolding discharge
+discharge-within link vehicles h = rw (le-leb vehicles (link .dropDensity) h)
+
+pub discharge-above : (link : Link) (vehicles : ℕ) → link .dropDensity < vehicles → discharge link vehicles ≡ link .droppedCapacity
+unfolding discharge
+discharge-above link vehicles h = rw (lt-leb vehicles (link .dropDensity) h)
+
+-- where the dropped capacity is no more than F, neither is what a link may discharge
+pub discharge-capacity : (link : Link) (vehicles : ℕ) → link .droppedCapacity ≤ link .capacity → discharge link vehicles ≤ link .capacity
+discharge-capacity link vehicles h =
+    ⊎-elim
+    (λ (g : vehicles ≤ link .dropDensity). omega (arith, discharge-within link vehicles g))
+    (λ (g : link .dropDensity < vehicles). omega (arith, discharge-above link vehicles g))
+    (le-or-lt vehicles (link .dropDensity))
+
+-- a link within its drop density sends as one without a drop
+pub sending-within : (link : Link) (vehicles limit : ℕ) → vehicles ≤ link .dropDensity → sending link vehicles limit ≡ min (vehicles * limit / 65536) (link .capacity)
 unfolding sending
-sending-capacity link vehicles limit = omega arith
+sending-within link vehicles limit h = ap (min (vehicles * limit / 65536)) (discharge-within link vehicles h)
+
+pub sending-discharge : (link : Link) (vehicles limit : ℕ) → sending link vehicles limit ≤ discharge link vehicles
+unfolding sending
+sending-discharge link vehicles limit = omega arith
+
+pub sending-capacity : (link : Link) (vehicles limit : ℕ) → link .droppedCapacity ≤ link .capacity → sending link vehicles limit ≤ link .capacity
+sending-capacity link vehicles limit h = omega (arith, sending-discharge link vehicles limit, discharge-capacity link vehicles h)
 
 pub sending-product : (link : Link) (vehicles limit : ℕ) → sending link vehicles limit ≤ vehicles * limit / 65536
 unfolding sending

@@ -57,15 +57,16 @@ pub record LinkTops (link : Link) : Type 0 where
   pub fullSpeed : link .fullSpeed ≤ 65536
   pub waveSpeed : link .waveSpeed ≤ 65536
   pub jam : link .jam ≤ 65536
+  pub droppedCapacity : link .droppedCapacity ≤ link .capacity
 
 module _ (road : Road) (limits : Limits road) where
   pub link-tops : (i : ℕ) → i ≤ road .links → LinkTops (road .node i .link)
   link-tops zero h =
       let a = limits .entry in
-      record { capacity = omega arith; fullSpeed = omega arith; waveSpeed = omega arith; jam = omega arith }
+      record { capacity = omega arith; fullSpeed = omega arith; waveSpeed = omega arith; jam = omega arith; droppedCapacity = omega arith }
   link-tops (suc j) h =
       let a = limits .link (suc j) (omega arith) h in
-      record { capacity = omega arith; fullSpeed = omega arith; waveSpeed = omega arith; jam = omega arith }
+      record { capacity = omega arith; fullSpeed = omega arith; waveSpeed = omega arith; jam = omega arith; droppedCapacity = omega arith }
 
   pub junction-limits : (k i : ℕ) (state : ℕ → NodeState) → k < road .steps → i ≤ road .links → state i .vehicles ≤ road .node i .link .jam
       → JunctionLimits (junction road k state i)
@@ -76,7 +77,7 @@ module _ (road : Road) (limits : Limits road) where
 
   -- rule 1 at node 0: D = 0
   pub entry-sends : (vehicles limit : ℕ) → sending (road .node 0 .link) vehicles limit ≡ 0
-  entry-sends vehicles limit = omega (arith, sending-capacity (road .node 0 .link) vehicles limit, limits .entry .capacity)
+  entry-sends vehicles limit = omega (arith, sending-capacity (road .node 0 .link) vehicles limit (link-tops 0 (omega arith) .droppedCapacity), limits .entry .capacity)
 
   -- rule 3 at node N: d = 0
   pub exit-offers : (queue rate : ℕ) → offer (road .node (road .links) .ramp) queue rate ≡ 0
@@ -101,7 +102,7 @@ module _ (road : Road) (limits : Limits road) where
   exit-free k state rate limit free =
       let n = road .links in
       merge-free _ _ (road .split k n) (supply road k state n) _ refl refl
-      (exit-fits k state _ free (exit-offers (state n .queue) rate) (sending-capacity (road .node n .link) (state n .vehicles) limit))
+      (exit-fits k state _ free (exit-offers (state n .queue) rate) (sending-capacity (road .node n .link) (state n .vehicles) limit (link-tops n (omega arith) .droppedCapacity)))
 
   -- rule 5 at node N: nothing is rounded away, f = min(D, S) and r = 0
   pub exit-passes : (k : ℕ) (state : ℕ → NodeState) (rate limit : ℕ) → k < road .steps

@@ -30,7 +30,7 @@ module _ (road : Road) (limits : Limits road) (plan : Plan) where
         main = omega (
           arith,
           flows-sent (junction road k state i) (plan .rate k i) (plan .limit k i),
-          sending-capacity (road .node i .link) (state i .vehicles) (plan .limit k i),
+          sending-capacity (road .node i .link) (state i .vehicles) (plan .limit k i) (link-tops road limits i h .droppedCapacity),
           link-tops road limits i h .capacity,
         );
         ramp = omega (arith, flows-offered (junction road k state i) (plan .rate k i) (plan .limit k i), limits .ramp i h .capacity);

@@ -11,6 +11,10 @@ pub record Link : Type 0 where
   pub waveSpeed : ℕ
   -- J
   pub jam : ℕ
+  -- dropped capacity, the paper's F with a bar
+  pub droppedCapacity : ℕ
+  -- drop density, the paper's n with cd
+  pub dropDensity : ℕ
 
 pub record Ramp : Type 0 where
   -- C

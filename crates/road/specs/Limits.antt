@@ -8,12 +8,14 @@ pub record Within (low high x : ℕ) : Type 0 where
   pub above : low ≤ x
   pub below : x ≤ high
 
--- F 0..65,536; V, W, J 1..65,536
+-- F 0..65,536; V, W, J 1..65,536; dropped capacity 0..F, drop density 0..J
 pub record LinkLimits (link : Link) : Type 0 where
   pub capacity : link .capacity ≤ 65536
   pub fullSpeed : Within 1 65536 (link .fullSpeed)
   pub waveSpeed : Within 1 65536 (link .waveSpeed)
   pub jam : Within 1 65536 (link .jam)
+  pub droppedCapacity : link .droppedCapacity ≤ link .capacity
+  pub dropDensity : link .dropDensity ≤ link .jam
 
 -- node 0 has no link
 pub record NoLink (link : Link) : Type 0 where
@@ -21,6 +23,8 @@ pub record NoLink (link : Link) : Type 0 where
   pub fullSpeed : link .fullSpeed ≡ 0
   pub waveSpeed : link .waveSpeed ≡ 0
   pub jam : link .jam ≡ 0
+  pub droppedCapacity : link .droppedCapacity ≡ 0
+  pub dropDensity : link .dropDensity ≡ 0
 
 -- C 0..65,536; L 0..134,217,728
 pub record RampLimits (ramp : Ramp) : Type 0 where

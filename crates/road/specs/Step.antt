@@ -4,9 +4,13 @@ use mathlib.Core.Bool.{cond}
 use lib.Dec.{leb}
 use Rattle.road.specs.Corridor.{Link, Ramp, NodeState, Flows}
 
--- 1. Sending of a link with n vehicles at posted limit v: D = min(n × v / 65,536, F)
+-- 1. What a link with n vehicles may discharge: F while n is at or below the drop density, and the dropped capacity above it
+unfoldable pub discharge : Link → ℕ → ℕ
+discharge link vehicles = cond (leb vehicles (link .dropDensity)) (link .capacity) (link .droppedCapacity)
+
+-- 1. Sending of a link with n vehicles at posted limit v: D = min(n × v / 65,536, what it may discharge)
 unfoldable pub sending : Link → ℕ → ℕ → ℕ
-sending link vehicles limit = min (vehicles * limit / 65536) (link .capacity)
+sending link vehicles limit = min (vehicles * limit / 65536) (discharge link vehicles)
 
 -- 2. What leaves a flow x by the off-ramp at split b, x × b / 65,536, and its through part, T(x), the rest
 unfoldable pub exit : ℕ → ℕ → ℕ

@@ -14,6 +14,8 @@ linkOf link =
       fullSpeed = link .«full_speed» .0;
       waveSpeed = link .«wave_speed» .0;
       jam = link .jam .0;
+      droppedCapacity = link .«dropped_capacity» .0;
+      dropDensity = link .«drop_density» .0;
     }
 
 abbrev pub rampOf : ramps.Ramp → Ramp

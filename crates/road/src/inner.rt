@@ -1,7 +1,7 @@
 // The leaves of a step: rules 1 to 6 of one node on typed values, each proved to be its definition. Products are 64 bits wide.
 ghost use mathlib.Core.Path.{_≡_};
 ghost use Prim.Native.Nat.{_+_, _*_, _/_, _≤_, _<_};
-ghost use Rattle.road.specs.Step.{sending, through, offer, receiving, merge, flowsWith, outflow, moved};
+ghost use Rattle.road.specs.Step.{discharge, sending, through, offer, receiving, merge, flowsWith, outflow, moved};
 ghost use Rattle.road.specs.Values.{linkOf, rampOf, stateOf, junctionOf, flowsOf};
 use crate::Flows;
 use crate::Junction;
@@ -28,15 +28,27 @@ pub fn share(x: u32, part: u32, whole: u64) -> u32
     (product(x, part) / whole) as u32
 }
 
+// Rule 1: what a link may discharge.
+pub fn discharge(link: Link, vehicles: Units) -> Units
+    ensures { λ r. ⌜ r .0 ≡ discharge (linkOf link) (vehicles .0) ⌝ }
+{
+    if vehicles.0 <= link.drop_density.0 {
+        link.capacity
+    } else {
+        link.dropped_capacity
+    }
+}
+
 // Rule 1.
 pub fn sending(link: Link, vehicles: Units, limit: Speed) -> Units
     ensures { λ r. ⌜ r .0 ≡ sending (linkOf link) (vehicles .0) (limit .0) ⌝ }
 {
     let sent = product(vehicles.0, limit.0) / 65536;
-    if sent < link.capacity.0 as u64 {
+    let most = discharge(link, vehicles);
+    if sent < most.0 as u64 {
         Units(sent as u32)
     } else {
-        link.capacity
+        most
     }
 }
 
@@ -69,10 +81,11 @@ pub fn receiving(link: Link, vehicles: Units) -> Units
     ensures { λ r. ⌜ r .0 ≡ receiving (linkOf link) (vehicles .0) ⌝ }
 {
     let room = product(link.wave_speed.0, link.jam.0 - vehicles.0) / 65536;
-    if room < link.capacity.0 as u64 {
+    let most = link.capacity;
+    if room < most.0 as u64 {
         Units(room as u32)
     } else {
-        link.capacity
+        most
     }
 }
 

@@ -10,12 +10,14 @@ pub struct Speed(pub u32);
 // A split, in parts of 65,536.
 pub struct Parts(pub u32);
 
-// A link: F, V, W and J.
+// A link: F, V, W, J, dropped capacity and drop density.
 pub struct Link {
     pub capacity: Units,
     pub full_speed: Speed,
     pub wave_speed: Speed,
     pub jam: Units,
+    pub dropped_capacity: Units,
+    pub drop_density: Units,
 }
 
 // An on-ramp: C and L.

@@ -1,13 +1,13 @@
 -- The worked cases hold by computation.
 use mathlib.Core.Path.{refl}
 use Rattle.tables.specs.Least.{leastFrom}
-use Rattle.road.specs.Step.{sending, exit, through, offer, receiving, passed, merge, flowsWith}
+use Rattle.road.specs.Step.{discharge, sending, exit, through, offer, receiving, passed, merge, flowsWith}
 use Rattle.settings.specs.Rate.{fullFlows, gives, rateFor}
 use Rattle.settings.specs.Setting.{heldLimit, settingFor}
 use Rattle.settings.specs.Cases.{Cases}
 
 pub cases : Cases
-unfolding leastFrom sending exit through offer receiving passed merge flowsWith fullFlows gives rateFor heldLimit settingFor
+unfolding leastFrom discharge sending exit through offer receiving passed merge flowsWith fullFlows gives rateFor heldLimit settingFor
 cases =
     record {
       case-1-sending = refl;

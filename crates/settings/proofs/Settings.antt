@@ -12,7 +12,7 @@ use Rattle.tables.proofs.Numbers.{le-or-lt}
 use Rattle.tables.proofs.Least.{least-is}
 use Rattle.road.specs.Corridor.{Flows}
 use Rattle.road.specs.Step.{Junction, sending, flowsWith}
-use Rattle.road.specs.Limits.{JunctionLimits}
+use Rattle.road.specs.Limits.{NoLink, JunctionLimits}
 use Rattle.road.proofs.Quotients.{share-le, ceiling}
 use Rattle.road.proofs.Rules.{SmallestLimit, some-limit-sends, sending-product, sending-capacity, sending-rises, sending-exact, offer-exact, merge-free, flows-sent, flows-offered, flows-metered, flows-fit}
 use Rattle.settings.specs.declared.Found.{Found}
@@ -147,7 +147,7 @@ module _ (junction : Junction) (limits : JunctionLimits junction) (flows : Flows
         named
 
     -- node 0, which has no link, is always full, at rate r
-    pub entry-full : junction .link .capacity ≡ 0 → settingFor junction flows ≡ Full (record { 0 = flows .ramp })
+    pub entry-full : NoLink (junction .link) → settingFor junction flows ≡ Full (record { 0 = flows .ramp })
     unfolding settingFor
     entry-full e = ap (λ (found : Found). settle found (junction .state .vehicles) flows) (rate-iff junction flows (Rate (record { 0 = flows .ramp })) .1 smallest)
       where
@@ -155,7 +155,7 @@ module _ (junction : Junction) (limits : JunctionLimits junction) (flows : Flows
         v = junction .link .fullSpeed
 
         none : sending (junction .link) (junction .state .vehicles) v ≡ flows .main
-        none = omega (arith, sending-capacity (junction .link) (junction .state .vehicles) v, permitted .sent)
+        none = omega (arith, sending-capacity (junction .link) (junction .state .vehicles) v (omega (arith, e)), permitted .sent, e)
 
         smallest : SmallestRate junction flows (flows .ramp)
         smallest =

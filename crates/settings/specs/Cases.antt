@@ -9,7 +9,7 @@ use Rattle.settings.specs.Setting.{settingFor}
 
 -- links 1 and 2
 abbrev pub link : Link
-link = record { capacity = 100; fullSpeed = 32768; waveSpeed = 32768; jam = 400 }
+link = record { capacity = 100; fullSpeed = 32768; waveSpeed = 32768; jam = 400; droppedCapacity = 100; dropDensity = 400 }
 
 -- ramp 1
 abbrev pub ramp : Ramp
@@ -30,7 +30,7 @@ nodeOne before after =
 abbrev pub nodeNine : ℕ → Junction
 nodeNine supply =
     record {
-      link = record { capacity = 65536; fullSpeed = 65536; waveSpeed = 32768; jam = 65536 };
+      link = record { capacity = 65536; fullSpeed = 65536; waveSpeed = 32768; jam = 65536; droppedCapacity = 65536; dropDensity = 65536 };
       ramp = ramp;
       state = record { vehicles = 65536; queue = 0 };
       split = 0;

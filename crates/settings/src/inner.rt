@@ -1,6 +1,6 @@
 // The search for a rate by halving, and the setting of a node.
 ghost use mathlib.Core.Path.{_≡_};
-ghost use Prim.Native.Nat.{_≤_};
+ghost use Prim.Native.Nat.{_+_, _-_, _/_, _≤_, _<_};
 ghost use Rattle.road.specs.Values.{junctionOf, flowsOf};
 ghost use Rattle.settings.specs.Rate.{fullFlows, reaches, gives, candidate, rateFor};
 ghost use Rattle.settings.specs.Setting.{heldLimit, settingFor};
@@ -45,6 +45,14 @@ pub fn gives(junction: Junction, wanted: Flows, rate: Units) -> bool
     }
 }
 
+// The middle of the rates left, rounded down; one follows it, since some are left above it.
+fn middle(low: u32, high: u32) -> u32
+    requires { ⌜ low < high ⌝ }
+    ensures { λ r. ⌜ (r ≡ low + (high - low) / 2) × (r < 4294967295) ⌝ }
+{
+    low + (high - low) / 2
+}
+
 // The one rate left when the rates 0 to C are halved.
 pub fn candidate(junction: Junction, wanted: Flows) -> Units
     requires { ⌜ junction .split .0 ≤ 65536 ⌝ }
@@ -53,7 +61,7 @@ pub fn candidate(junction: Junction, wanted: Flows) -> Units
     let mut low: u32 = 0;
     let mut high = junction.ramp.capacity.0;
     while low < high {
-        let middle = low + (high - low) / 2;
+        let middle = middle(low, high);
         if reaches(junction, wanted, Units(middle)) {
             high = middle;
         } else {

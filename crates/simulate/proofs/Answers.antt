@@ -15,7 +15,7 @@ use Rattle.lists.specs.Words.{linksOf, stepsOf, roadOf, planOf, recordWidth, pl
 use Rattle.lists.specs.Refusals.{sizes, ranges, bounds, planBounds}
 use Rattle.faults.proofs.Tests.{both-hold, eq-holds}
 use Rattle.lists.proofs.Limits.{sizes-iff, sized-iff, ranges-iff, bounds-iff}
-use Rattle.lists.proofs.Sizes.{demands-long}
+use Rattle.lists.proofs.Sizes.{corridor-fits, demands-long}
 use Rattle.simulate.specs.Simulate.{simulateSizes, simulateAnswer, Sound}
 
 -- N and K in range, as the code has them
@@ -97,7 +97,7 @@ module _ (corridor demands plan : List ℕ) (room : ℕ) where
       let r = orElse-accepts (ranges (roadOf corridor demands)) (bounds (roadOf corridor demands) (planOf (roadOf corridor demands) plan)) .0
       (orElse-accepts (sized (simulateSizes corridor demands plan room)) rest .0 e .1) in
       record {
-        corridorFits = record { first = refl; few = omega (arith, s .links); words = s .corridorFits };
+        corridorFits = corridor-fits corridor demands (linksOf corridor) (l .listed) refl;
         steps = omega (arith, s .steps);
         demandsFit = demands-long _ _ _ (s .demandsFit);
         planFits = l .planFits;

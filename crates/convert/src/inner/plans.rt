@@ -70,7 +70,7 @@ pub fn plan_row(
     let mut i: usize = 0;
     while i < nodes {
         let setting = setting_at(corridor, links, demand, downstream, row, width, i);
-        let link = words::link_at(corridor, i);
+        let link = words::link_at(corridor, links, i);
         put_setting(out, i, setting, link.full_speed);
         i += 1;
     }

@@ -8,7 +8,7 @@ ghost use Rattle.road.specs.Step.{outflow};
 ghost use Rattle.road.specs.Run.{inflow};
 ghost use Rattle.lists.specs.Words.{Width};
 ghost use Rattle.lists.specs.Rows.{flowsIn, stepRoad};
-ghost use Rattle.lists.specs.Fits.{CorridorFits, NodeFits, RowFits, NodeIn};
+ghost use Rattle.lists.specs.Fits.{CorridorFits, RowFits, NodeIn};
 ghost use Rattle.convert.specs.Rows.{fixedFaultIn, stepFaultIn, RowsKept};
 use faults::inner::records;
 use lists::inner::words;
@@ -27,11 +27,11 @@ fn fixed_answer(
     width: usize,
     i: usize,
 ) -> Answer
-    requires { ⌜ NodeFits (now corridor) i × NodeIn width (now row) i × Width width ⌝ }
-    requires { ⌜ (k ≤ 1440) × (i ≤ 64) ⌝ }
+    requires { ⌜ CorridorFits (now corridor) links ⌝ }
+    requires { ⌜ (k ≤ 1440) × (i ≤ links) × NodeIn width (now row) i × Width width ⌝ }
     ensures { λ r. ⌜ r ≡ refusal (fixedFaultIn width (now (corridor .entry)) links steps k (now (row .entry)) i) k i ⌝ }
 {
-    let start = words::start_at(corridor, i);
+    let start = words::start_at(corridor, links, i);
     let state = words::state_at(row, width, i);
     let flows = words::flows_at(row, width, i);
     let number = records::fixed_fault(links, steps, k, i, start, state, flows);

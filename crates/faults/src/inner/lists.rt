@@ -5,7 +5,7 @@ ghost use lib.Dec.{leb, eqb};
 ghost use Rattle.tables.specs.Answer.{unless};
 ghost use Rattle.road.specs.Corridor.{Node};
 ghost use Rattle.road.specs.Values.{linkOf, rampOf, stateOf};
-ghost use Rattle.faults.specs.Lists.{linkFault, rampFault, startFault, demandFault, planFault};
+ghost use Rattle.faults.specs.Lists.{dropInRange, linkFault, rampFault, startFault, demandFault, planFault};
 use road::Link;
 use road::NodeState;
 use road::Ramp;
@@ -24,6 +24,25 @@ fn entry_fault(link: Link) -> u32
         return 2;
     }
     if link.jam.0 != 0 {
+        return 2;
+    }
+    if link.dropped_capacity.0 != 0 {
+        return 2;
+    }
+    if link.drop_density.0 != 0 {
+        return 2;
+    }
+    0
+}
+
+// The dropped capacity is at most F, the drop density at most J.
+fn drop_fault(link: Link) -> u32
+    ensures { λ r. ⌜ r ≡ unless (dropInRange (linkOf link)) 2 ⌝ }
+{
+    if link.dropped_capacity.0 > link.capacity.0 {
+        return 2;
+    }
+    if link.drop_density.0 > link.jam.0 {
         return 2;
     }
     0
@@ -54,7 +73,7 @@ fn range_fault(link: Link) -> u32
     if link.jam.0 > 65536 {
         return 2;
     }
-    0
+    drop_fault(link)
 }
 
 // Refusal 2 at node i.

@@ -7,9 +7,9 @@ ghost use Rattle.tables.specs.Answer.{refusal};
 ghost use Rattle.tables.specs.First.{firstNode, firstPlace};
 ghost use Rattle.lists.specs.Words.{linksOf, stepsOf, nodeAt, roadOf, planLength, Width};
 ghost use Rattle.faults.specs.Lists.{startFault, demandFault, planFault};
-ghost use Rattle.lists.specs.Refusals.{demandsSized, sizes, ranges, planBounds};
+ghost use Rattle.lists.specs.Refusals.{corridorSized, demandsSized, sizes, ranges, planBounds};
 ghost use Rattle.lists.specs.Scans.{lengthsFit, nodeFault, nodeFaultIn, nodeFaultAt, RowFor, corridorRefusal};
-ghost use Rattle.lists.specs.Fits.{CorridorFits, NodeFits, NodeIn};
+ghost use Rattle.lists.specs.Fits.{CorridorFits, NodeIn};
 ghost use Rattle.lists.specs.declared.inner.scans.NodeTest.the-variants.{Ramp};
 use crate::inner::identifiers;
 use crate::inner::words;
@@ -44,6 +44,18 @@ pub fn row_at(k: usize, width: usize, rows: usize) -> usize
     k * width
 }
 
+// Whether `count` words are a corridor of kind 1 or of kind 10.
+fn corridor_sized(links: usize, count: usize) -> bool
+    requires { ⌜ links ≤ 64 ⌝ }
+    ensures { λ r. ⌜ r ≡ corridorSized links count ⌝ }
+{
+    let nodes = links + 1;
+    if count == 1 + nodes * 9 {
+        return true;
+    }
+    count == 1 + nodes * 11
+}
+
 // Whether `count` words are demands of kind 2 or of kind 5.
 fn demands_sized(links: usize, steps: usize, count: usize) -> bool
     requires { ⌜ (links ≤ 64) × (steps ≤ 1440) ⌝ }
@@ -72,11 +84,10 @@ fn lengths_fit(links: usize, steps: usize, corridor: usize, demands: usize) -> b
     if steps > 1440 {
         return false;
     }
-    let nodes = links + 1;
-    if corridor != 1 + nodes * 9 {
-        return false;
+    if corridor_sized(links, corridor) {
+        return demands_sized(links, steps, demands);
     }
-    demands_sized(links, steps, demands)
+    false
 }
 
 // Whether N, K and the length of both lists are right.
@@ -101,23 +112,25 @@ pub fn state_words(links: usize, width: usize) -> usize
 
 // Refusal 3 at node i.
 fn ramp_number(corridor: &[u32], links: usize, i: usize) -> u32
-    requires { ⌜ NodeFits (now corridor) i ⌝ }
+    requires { ⌜ CorridorFits (now corridor) links ⌝ }
+    requires { ⌜ i ≤ links ⌝ }
     ensures { λ r. ⌜ r ≡ nodeFault Ramp (now (corridor .entry)) links i 0 0 0 ⌝ }
 {
-    let identifier = words::identifier_at(corridor, i);
-    let ramp = words::ramp_at(corridor, i);
-    let fresh = identifiers::fresh(corridor, i);
+    let identifier = words::identifier_at(corridor, links, i);
+    let ramp = words::ramp_at(corridor, links, i);
+    let fresh = identifiers::fresh(corridor, links, i);
     lists::ramp_fault(i == links, identifier, ramp, fresh)
 }
 
 // Refusal 4 at node i.
-fn start_number(corridor: &[u32], i: usize) -> u32
-    requires { ⌜ NodeFits (now corridor) i ⌝ }
+fn start_number(corridor: &[u32], links: usize, i: usize) -> u32
+    requires { ⌜ CorridorFits (now corridor) links ⌝ }
+    requires { ⌜ i ≤ links ⌝ }
     ensures { λ r. ⌜ r ≡ startFault (nodeAt (now (corridor .entry)) i) ⌝ }
 {
-    let link = words::link_at(corridor, i);
-    let ramp = words::ramp_at(corridor, i);
-    let start = words::start_at(corridor, i);
+    let link = words::link_at(corridor, links, i);
+    let ramp = words::ramp_at(corridor, links, i);
+    let start = words::start_at(corridor, links, i);
     lists::start_fault(link, ramp, start)
 }
 
@@ -136,12 +149,13 @@ fn demand_number(links: usize, row: &[u32], downstream: Units, i: usize) -> u32
 }
 
 // Refusal 6 at node i, in a row of the plan.
-fn plan_number(corridor: &[u32], row: &[u32], i: usize) -> u32
-    requires { ⌜ NodeFits (now corridor) i × NodeIn 2 (now row) i ⌝ }
+fn plan_number(corridor: &[u32], links: usize, row: &[u32], i: usize) -> u32
+    requires { ⌜ CorridorFits (now corridor) links ⌝ }
+    requires { ⌜ (i ≤ links) × NodeIn 2 (now row) i ⌝ }
     ensures { λ r. ⌜ r ≡ planFault (nodeAt (now (corridor .entry)) i .link) (nodeAt (now (corridor .entry)) i .ramp) (getD (now (row .entry)) (i * 2 + 0) 0) (getD (now (row .entry)) (i * 2 + 1) 0) ⌝ }
 {
-    let link = words::link_at(corridor, i);
-    let ramp = words::ramp_at(corridor, i);
+    let link = words::link_at(corridor, links, i);
+    let ramp = words::ramp_at(corridor, links, i);
     lists::plan_fault(
         link,
         ramp,
@@ -164,11 +178,11 @@ fn node_number(
     ensures { λ r. ⌜ r ≡ nodeFaultIn test (now (corridor .entry)) links (now (row .entry)) (downstream .0) i ⌝ }
 {
     match test {
-        NodeTest::Link => lists::link_fault(i, words::link_at(corridor, i)),
+        NodeTest::Link => lists::link_fault(i, words::link_at(corridor, links, i)),
         NodeTest::Ramp => ramp_number(corridor, links, i),
-        NodeTest::Start => start_number(corridor, i),
+        NodeTest::Start => start_number(corridor, links, i),
         NodeTest::Demand => demand_number(links, row, downstream, i),
-        NodeTest::Plan => plan_number(corridor, row, i),
+        NodeTest::Plan => plan_number(corridor, links, row, i),
     }
 }
 

@@ -5,9 +5,9 @@ ghost use Prim.Native.Nat.{ℕ, _+_, _*_, _≤_, _<_};
 ghost use lib.ListN.{length, getD};
 ghost use Rattle.road.specs.Run.{supply, junction};
 ghost use Rattle.road.specs.Values.{linkOf, rampOf, stateOf, junctionOf, flowsOf};
-ghost use Rattle.lists.specs.Words.{linksOf, stepsOf, nodeAt, corridorWord, Width, free, downstreamWord};
+ghost use Rattle.lists.specs.Words.{linksOf, stepsOf, corridorLength, byKind, nodeWidth, nodeAt, corridorWord, Width, free, downstreamWord};
 ghost use Rattle.lists.specs.Rows.{stateIn, flowsIn, stepRoad};
-ghost use Rattle.lists.specs.Fits.{CorridorFits, NodeFits, DemandsFit, RowFits, NodeIn, JamKept};
+ghost use Rattle.lists.specs.Fits.{CorridorFits, DemandsFit, RowFits, NodeIn, JamKept};
 use crate::inner::scans;
 use road::Flows;
 use road::Junction;
@@ -42,13 +42,33 @@ pub fn steps_of(demands: &[u32]) -> usize
     opening(demands)
 }
 
+// Of two numbers the one for kind 10, where a corridor of N has that kind's length, and else the one for kind 1.
+pub fn by_kind(links: usize, count: usize, dropped: usize, plain: usize) -> usize
+    requires { ⌜ links ≤ 64 ⌝ }
+    ensures { λ r. ⌜ r ≡ byKind links count dropped plain ⌝ }
+{
+    if count == 1 + (links + 1) * 11 {
+        dropped
+    } else {
+        plain
+    }
+}
+
+// Where the words of node i begin in a corridor's list of `count` words, and that they end within it.
+fn node_place(links: usize, count: usize, i: usize) -> usize
+    requires { ⌜ (links ≤ 64) × (i ≤ links) × (count ≡ corridorLength (nodeWidth links count) links) ⌝ }
+    ensures { λ r. ⌜ (r ≡ 1 + i * nodeWidth links count) × (r + nodeWidth links count ≤ count) ⌝ }
+{
+    1 + i * by_kind(links, count, 11, 9)
+}
+
 // Word q of node i in the corridor's list.
-fn node_word(corridor: &[u32], i: usize, q: usize) -> u32
-    requires { ⌜ NodeFits (now corridor) i ⌝ }
-    requires { ⌜ q < 9 ⌝ }
+fn node_word(corridor: &[u32], links: usize, i: usize, q: usize) -> u32
+    requires { ⌜ CorridorFits (now corridor) links ⌝ }
+    requires { ⌜ (i ≤ links) × (q < nodeWidth links (length (now corridor))) ⌝ }
     ensures { λ r. ⌜ r ≡ corridorWord (now (corridor .entry)) i q ⌝ }
 {
-    corridor[1 + (i * 9 + q)]
+    corridor[node_place(links, corridor.len(), i) + q]
 }
 
 // Word q of node i in a row that has `width` words for each node.
@@ -61,45 +81,53 @@ fn row_word(row: &[u32], width: usize, i: usize, q: usize) -> u32
 }
 
 // The identifier of node i.
-pub fn identifier_at(corridor: &[u32], i: usize) -> u32
-    requires { ⌜ NodeFits (now corridor) i ⌝ }
+pub fn identifier_at(corridor: &[u32], links: usize, i: usize) -> u32
+    requires { ⌜ CorridorFits (now corridor) links ⌝ }
+    requires { ⌜ i ≤ links ⌝ }
     ensures { λ r. ⌜ r ≡ nodeAt (now (corridor .entry)) i .identifier ⌝ }
 {
-    node_word(corridor, i, 0)
+    node_word(corridor, links, i, 0)
 }
 
 // Link i.
-pub fn link_at(corridor: &[u32], i: usize) -> Link
-    requires { ⌜ NodeFits (now corridor) i ⌝ }
+pub fn link_at(corridor: &[u32], links: usize, i: usize) -> Link
+    requires { ⌜ CorridorFits (now corridor) links ⌝ }
+    requires { ⌜ i ≤ links ⌝ }
     ensures { λ r. ⌜ linkOf r ≡ nodeAt (now (corridor .entry)) i .link ⌝ }
 {
+    let dropped = by_kind(links, corridor.len(), 9, 1);
+    let density = by_kind(links, corridor.len(), 10, 4);
     Link {
-        capacity: Units(node_word(corridor, i, 1)),
-        full_speed: Speed(node_word(corridor, i, 2)),
-        wave_speed: Speed(node_word(corridor, i, 3)),
-        jam: Units(node_word(corridor, i, 4)),
+        capacity: Units(node_word(corridor, links, i, 1)),
+        full_speed: Speed(node_word(corridor, links, i, 2)),
+        wave_speed: Speed(node_word(corridor, links, i, 3)),
+        jam: Units(node_word(corridor, links, i, 4)),
+        dropped_capacity: Units(node_word(corridor, links, i, dropped)),
+        drop_density: Units(node_word(corridor, links, i, density)),
     }
 }
 
 // Ramp i.
-pub fn ramp_at(corridor: &[u32], i: usize) -> Ramp
-    requires { ⌜ NodeFits (now corridor) i ⌝ }
+pub fn ramp_at(corridor: &[u32], links: usize, i: usize) -> Ramp
+    requires { ⌜ CorridorFits (now corridor) links ⌝ }
+    requires { ⌜ i ≤ links ⌝ }
     ensures { λ r. ⌜ rampOf r ≡ nodeAt (now (corridor .entry)) i .ramp ⌝ }
 {
     Ramp {
-        capacity: Units(node_word(corridor, i, 5)),
-        queue_limit: Units(node_word(corridor, i, 6)),
+        capacity: Units(node_word(corridor, links, i, 5)),
+        queue_limit: Units(node_word(corridor, links, i, 6)),
     }
 }
 
 // The state that node i starts in.
-pub fn start_at(corridor: &[u32], i: usize) -> NodeState
-    requires { ⌜ NodeFits (now corridor) i ⌝ }
+pub fn start_at(corridor: &[u32], links: usize, i: usize) -> NodeState
+    requires { ⌜ CorridorFits (now corridor) links ⌝ }
+    requires { ⌜ i ≤ links ⌝ }
     ensures { λ r. ⌜ stateOf r ≡ nodeAt (now (corridor .entry)) i .start ⌝ }
 {
     NodeState {
-        vehicles: Units(node_word(corridor, i, 7)),
-        queue: Units(node_word(corridor, i, 8)),
+        vehicles: Units(node_word(corridor, links, i, 7)),
+        queue: Units(node_word(corridor, links, i, 8)),
     }
 }
 
@@ -197,7 +225,7 @@ pub fn supply_at(
     ensures { λ r. ⌜ ((demand : List ℕ) → r .0 ≡ supply (stepRoad (now (corridor .entry)) demand (downstream .0)) 0 (stateIn width (now (state .entry))) i) ⌝ }
 {
     if i < links {
-        let link = link_at(corridor, i + 1);
+        let link = link_at(corridor, links, i + 1);
         let next = state_at(state, width, i + 1);
         return road::inner::receiving(link, next.vehicles);
     }
@@ -222,8 +250,8 @@ pub fn junction_at(
     ensures { λ r. ⌜ junctionOf r ≡ junction (stepRoad (now (corridor .entry)) (now (demand .entry)) (downstream .0)) 0 (stateIn width (now (state .entry))) i ⌝ }
 {
     Junction {
-        link: link_at(corridor, i),
-        ramp: ramp_at(corridor, i),
+        link: link_at(corridor, links, i),
+        ramp: ramp_at(corridor, links, i),
         state: state_at(state, width, i),
         split: split_at(demand, i),
         supply: supply_at(corridor, links, downstream, state, width, i),

@@ -38,7 +38,7 @@ pub fn start_row(corridor: &[u32], links: usize, row: &mut [u32], width: usize)
             row,
             width,
             i,
-            words::start_at(corridor, i),
+            words::start_at(corridor, links, i),
             Flows {
                 main: Units(0),
                 ramp: Units(0),

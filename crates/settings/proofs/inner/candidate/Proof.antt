@@ -18,14 +18,16 @@ abbrev μ-loop : tie.MeasureT-loop
 
 loop-again : tie.Need-loop-again Inv-loop μ-loop
 loop-again c =
-    let k = c .before .before .before in
-    bracket-up-to _ _ _ _ _ (k .loop .inv) (omega arith) (omega arith) (sym (c .before .reaches .ensures) ∙ c .if1 .taken)
+    let k = c .before .before .before .before in
+    let m = c .before .before .middle .ensures .0 in
+    bracket-up-to _ _ _ _ _ (k .loop .inv) (omega (arith, m)) (omega (arith, m)) (sym (c .before .reaches .ensures) ∙ c .if1 .taken)
 
 loop-again-2 : tie.Need-loop-again-2 Inv-loop μ-loop
 loop-again-2 c =
-    let k = c .before .before .before in
+    let k = c .before .before .before .before in
+    let m = c .before .before .middle .ensures .0 in
     let a = k .before .args in
-    bracket-past _ _ _ _ _ (searchable (junctionOf (a .junction)) (flowsOf (a .wanted)) .upward) (k .loop .inv) (omega arith) (omega arith)
+    bracket-past _ _ _ _ _ (searchable (junctionOf (a .junction)) (flowsOf (a .wanted)) .upward) (k .loop .inv) (omega (arith, m)) (omega (arith, m))
     (sym (c .before .reaches .ensures) ∙ c .if1 .left)
 
 returns : tie.Need-returns Inv-loop μ-loop
@@ -39,8 +41,7 @@ candidate-spec =
     Inv-loop
     μ-loop
     (λ c. bracket-begun _ _)
-    (λ c. search needs)
-    (λ c. search needs)
+    (λ c κs. search needs)
     (λ c κs. search needs)
     (λ c. search needs)
     loop-again

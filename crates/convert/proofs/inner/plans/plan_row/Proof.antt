@@ -15,7 +15,7 @@ abbrev μ-loop : tie.MeasureT-loop
 μ-loop corridor links demand downstream row width out₀ nodes i₀ out i = links + 1 - i
 
 link-at-requires : tie.Need-link-at-requires Inv-loop μ-loop
-link-at-requires c κs = omega (arith, c .before .before .before .before .before .before .before .pre .0 .0 .corridorFits .words)
+link-at-requires c κs = (c .before .before .before .before .before .before .before .pre .0 .0 .corridorFits, omega arith)
 
 pub plan-row-spec : {M : Type 1} → statement M
 plan-row-spec =
@@ -28,7 +28,7 @@ plan-row-spec =
     (λ c κs. (c .before .before .before .before .before .before .pre .0, omega arith))
     link-at-requires
     (λ c κs. search needs)
-    (λ c. search needs)
+    (λ c. omega (arith, c .before .before .before .before .before .before .before .before .before .before .before .before .pre .0 .0 .corridorFits .few))
     (λ c. search needs)
     (λ c. search setting-more)
     (λ c. search needs)

@@ -6,4 +6,4 @@ use Rattle.faults.proofs.inner.lists.entry_fault.Tie as tie
 
 pub entry-fault-spec : {M : Type 1} → statement M
 unfolding linkFault
-entry-fault-spec = tie.close (tie.spec (λ c. search tests) (λ c. search tests) (λ c. search tests) (λ c. search tests) (λ c. search tests))
+entry-fault-spec = tie.close (tie.spec (λ c. search tests) (λ c. search tests) (λ c. search tests) (λ c. search tests) (λ c. search tests) (λ c. search tests) (λ c. search tests))

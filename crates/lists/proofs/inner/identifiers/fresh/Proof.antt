@@ -7,10 +7,10 @@ use Rattle.lists.proofs.inner.identifiers.fresh.Statement.{statement}
 use Rattle.lists.proofs.inner.identifiers.fresh.Tie as tie
 
 abbrev Inv-loop : tie.InvT-loop
-Inv-loop corridor i own j₀ j = Unseen j i (λ y. nodeAt corridor y .identifier)
+Inv-loop corridor links i own j₀ j = Unseen j i (λ y. nodeAt corridor y .identifier)
 
 abbrev μ-loop : tie.MeasureT-loop
-μ-loop corridor i own j₀ j = i - j
+μ-loop corridor links i own j₀ j = i - j
 
 returns : tie.Need-returns Inv-loop μ-loop
 returns c = search repeated

@@ -1,5 +1,5 @@
 -- Each test picks the case of `_&&_`.
-use native.Mathlib.Numerals.{add-one}
+use mathlib.Core.Path.{sym, _∙_}
 use borrow.Author.Needs.{needs}
 use Rattle.tables.proofs.Sets.{tests}
 use Rattle.lists.specs.Scans.{lengthsFit}
@@ -8,11 +8,11 @@ use Rattle.lists.proofs.inner.scans.lengths_fit.Tie as tie
 
 returns-5 : tie.Need-returns-5
 unfolding lengthsFit
-returns-5 c = search (tests, ← add-one (c .before .before .before .before .before .args .links))
+returns-5 c = search (tests, sym (c .before .before .corridor-sized .ensures) ∙ c .before .if5 .taken, ← c .demands-sized .ensures)
 
 returns-6 : tie.Need-returns-6
 unfolding lengthsFit
-returns-6 c = search (tests, ← add-one (c .before .before .before .before .before .before .args .links), ← c .demands-sized .ensures)
+returns-6 c = search (tests, sym (c .before .corridor-sized .ensures) ∙ c .if5 .left)
 
 pub lengths-fit-spec : {M : Type 1} → statement M
 unfolding lengthsFit
@@ -23,9 +23,7 @@ lengths-fit-spec =
     (λ c. search tests)
     (λ c. search tests)
     (λ c. search tests)
-    (λ c. search needs)
-    (λ c. search needs)
-    (λ c. search needs)
-    returns-5
     (λ c κs. search needs)
+    (λ c κs. search needs)
+    returns-5
     returns-6)

@@ -1,6 +1,7 @@
 -- By the words that are read.
 use borrow.Author.Needs.{needs}
 use Rattle.lists.specs.Words.{nodeAt}
+use Rattle.lists.proofs.Corridors.{nine-words}
 use Rattle.lists.proofs.inner.words.start_at.Statement.{statement}
 use Rattle.lists.proofs.inner.words.start_at.Tie as tie
 
@@ -9,4 +10,4 @@ unfolding nodeAt
 returns c = simp (c .before .node-word .ensures, c .node-word2 .ensures)
 
 pub start-at-spec : {M : Type 1} → statement M
-start-at-spec = tie.close (tie.spec (λ c κs. search needs) (λ c κs. search needs) returns)
+start-at-spec = tie.close (tie.spec (λ c κs. search (needs, nine-words)) (λ c κs. search (needs, nine-words)) returns)
