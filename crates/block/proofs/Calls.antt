@@ -17,7 +17,7 @@ use Rattle.tables.proofs.Tests.{and-iff}
 use Rattle.faults.specs.Lists.{within}
 use Rattle.lists.proofs.Limits.{sized-iff}
 use Rattle.block.specs.declared.Kind.{Kind}
-use Rattle.block.specs.declared.Kind.the-variants.{Corridor, Demands, DemandsDownstream, Record, Plan}
+use Rattle.block.specs.declared.Kind.the-variants.{Corridor, CorridorDrop, Demands, DemandsDownstream, Record, Plan}
 use Rattle.payload.specs.Word.{Words}
 use Rattle.payload.specs.File.{blocksFor, payloadWord, payloadPart, payloadOf, putPayload, fileOf}
 use Rattle.payload.specs.Reading.{payloadAnswer}
@@ -68,6 +68,7 @@ words-high rows nodes c d a b h = mul-le-mul a (mul-le-mul b h)
 pub length-low : (kind : Kind) (n k : ℕ) → Told n k → 1 ≤ listLength kind n k
 unfolding listLength
 length-low Corridor n k t = omega arith
+length-low CorridorDrop n k t = omega arith
 length-low Demands n k t = omega arith
 length-low DemandsDownstream n k t = omega arith
 length-low Record n k t = omega arith
@@ -76,6 +77,7 @@ length-low Plan n k t = words-low k (suc n) 2 (t .stepsLow) (omega arith) (omega
 pub length-high : (kind : Kind) (n k : ℕ) → Told n k → listLength kind n k ≤ 374662
 unfolding listLength
 length-high Corridor n k t = omega arith
+length-high CorridorDrop n k t = omega arith
 length-high Demands n k t = omega (arith, words-high k (suc n) 2 2 (omega arith) (omega arith) (omega arith))
 length-high DemandsDownstream n k t = omega (arith, words-high k (suc n) 2 2 (omega arith) (omega arith) (omega arith))
 length-high Record n k t = omega (arith, words-high (suc k) (suc n) 4 4 (omega arith) (omega arith) (omega arith))

@@ -6,7 +6,7 @@ use mathlib.Core.Logic.{_≢_}
 use mathlib.Core.Path.{_≡_, refl, sym, ap, _∙_}
 use Prim.Native.Nat.{ℕ, _+_, _*_, _≤_, _<_}
 use native.Mathlib.Omega.{arith}
-use borrow.Author.Tests.{eq-eqb, ne-eqb, le-leb}
+use borrow.Author.Tests.{eqb-true, eq-eqb, ne-eqb, le-leb}
 use lib.Dec.{eqb, lit<}
 use lib.ListN.{length, getD}
 use Rattle.tables.specs.declared.Answer.{Answer}
@@ -21,8 +21,8 @@ use Rattle.payload.specs.File.{blocksFor, payloadIn, payloadWord, payloadOf, fi
 use Rattle.payload.proofs.Words.{word-is}
 use Rattle.payload.proofs.Files.{file-length}
 use Rattle.block.specs.declared.Kind.{Kind}
-use Rattle.block.specs.declared.Kind.the-variants.{Corridor, Demands, DemandsDownstream, Record, Plan}
-use Rattle.block.specs.Kinds.{Told, kindNumber, listLength, kindWord, fileKind, listKind}
+use Rattle.block.specs.declared.Kind.the-variants.{Corridor, CorridorDrop, Demands, DemandsDownstream, Record, Plan}
+use Rattle.block.specs.Kinds.{Told, kindNumber, listLength, later, kindWord, saysLater, fileKind, listKind}
 use Rattle.block.specs.Calls.{toldFits, readAnswer, wordsRead, writeAnswer, fileWritten}
 use Rattle.block.proofs.Calls.{told-is, length-low, read-kept, write-kept}
 use Rattle.block.proofs.EachKind.{number-fits, wrote, got, written-then-read, read-then-written, change-seen}
@@ -44,49 +44,77 @@ opens-with number words h l =
 -- nothing else of a file chooses
 same-word : (p : Kind) (file other : List ℕ) → kindWord other ≡ kindWord file → fileKind p other ≡ fileKind p file
 unfolding fileKind
-same-word Corridor file other e = refl
-same-word Demands file other e = rw e
-same-word DemandsDownstream file other e = refl
-same-word Record file other e = refl
-same-word Plan file other e = refl
+same-word p file other e = ap (λ (w : ℕ). cond (eqb w (kindNumber (later p))) (later p) p) e
+
+-- what holds of both kinds of a place holds of the kind that a file chooses
+pub of-either : (P : Kind → Type 0) (p : Kind) (file : List ℕ) → P (later p) → P p → P (fileKind p file)
+unfolding fileKind
+of-either P p file long short = by (saysLater p file)
+  where
+    by : (t : Bool) → P (cond t (later p) p)
+    by true = long
+    by false = short
+
+-- ---- a kind and the later one of its place differ in number and in length
+
+later-number : (p : Kind) → kindNumber p ≡ kindNumber (later p) → later p ≡ p
+unfolding later kindNumber
+later-number Corridor e = absurd (omega arith)
+later-number CorridorDrop e = refl
+later-number Demands e = absurd (omega arith)
+later-number DemandsDownstream e = refl
+later-number Record e = refl
+later-number Plan e = refl
+
+-- two words more for each node, and K, which is not 0
+later-length : (p : Kind) (n k : ℕ) → Told n k → listLength p n k ≡ listLength (later p) n k → later p ≡ p
+unfolding later listLength
+later-length Corridor n k t e = absurd (omega arith)
+later-length CorridorDrop n k t e = refl
+later-length Demands n k t e = absurd (omega (arith, t .stepsLow))
+later-length DemandsDownstream n k t e = refl
+later-length Record n k t e = refl
+later-length Plan n k t e = refl
+
+-- so what tells them apart, x of one and y of the other, chooses the one that it was taken of
+chosen-back : (p : Kind) (x y : ℕ) → (x ≡ y → later p ≡ p) → (b : Bool) → cond (eqb (cond b y x) y) (later p) p ≡ cond b (later p) p
+chosen-back p x y one true = ap (λ (t : Bool). cond t (later p) p) (eq-eqb y y refl)
+chosen-back p x y one false = by (eqb x y) refl
+  where
+    by : (t : Bool) → eqb x y ≡ t → cond t (later p) p ≡ p
+    by true e = one (eqb-true x y e)
+    by false e = refl
+
+-- a test of kinds told by their numbers or lengths
+told-by : (f : Kind → ℕ) (p : Kind) (b : Bool) → cond b (f (later p)) (f p) ≡ f (cond b (later p) p)
+told-by f p true = refl
+told-by f p false = refl
 
 -- ---- a list and its file choose alike
 
--- of demands whose file opens with the number of their kind
-numbered : (downstream : Bool) (file : List ℕ) → kindWord file ≡ kindNumber (cond downstream DemandsDownstream Demands)
-    → fileKind Demands file ≡ cond downstream DemandsDownstream Demands
-unfolding fileKind kindNumber
-numbered true file e = rw e
-numbered false file e = rw e
+-- a file that opens with the number of one of the two kinds of a place is of that kind
+pub told-kind : (p : Kind) (b : Bool) (words : List ℕ) → 1 ≤ length words → fileKind p (fileOf (kindNumber (cond b (later p) p)) words) ≡ cond b (later p) p
+unfolding fileKind
+told-kind p b words some =
+    ap (λ (x : ℕ). cond (eqb x (kindNumber (later p))) (later p) p)
+    (opens-with (kindNumber (cond b (later p) p)) words (number-fits (cond b (later p) p)) some ∙ sym (told-by kindNumber p b))
+    ∙ chosen-back p (kindNumber p) (kindNumber (later p)) (later-number p) b
 
 pub written-kind : (p : Kind) (n k : ℕ) (words : List ℕ) (room : ℕ) → writeAnswer (listKind p n k (length words)) n k words room ≡ Accepted
     → fileKind p (fileOf (kindNumber (listKind p n k (length words))) words) ≡ listKind p n k (length words)
-unfolding fileKind listKind
-written-kind Corridor n k words room a = refl
-written-kind Demands n k words room a =
-    let kind : Kind = listKind Demands n k (length words) in
+unfolding listKind
+written-kind p n k words room a =
+    let kind : Kind = listKind p n k (length words) in
     let w = write-kept kind n k words room .0 a in
     let list : length words ≡ listLength kind n k = w .list in
-    numbered (eqb (length words) (listLength DemandsDownstream n k)) (fileOf (kindNumber kind) words)
-    (opens-with (kindNumber kind) words (number-fits kind) (omega (arith, length-low kind n k (told-is n k (toldFits n k) refl (w .told)))))
-written-kind DemandsDownstream n k words room a = refl
-written-kind Record n k words room a = refl
-written-kind Plan n k words room a = refl
-
--- of demands as long as their kind: K is not 0, so the two lengths differ
-measured : (downstream : Bool) (n k : ℕ) → Told n k
-    → listKind Demands n k (listLength (cond downstream DemandsDownstream Demands) n k) ≡ cond downstream DemandsDownstream Demands
-unfolding listKind listLength
-measured true n k t = rw (eq-eqb (listLength DemandsDownstream n k) (listLength DemandsDownstream n k) refl)
-measured false n k t = rw (ne-eqb (listLength Demands n k) (listLength DemandsDownstream n k) (omega (arith, t .stepsLow)))
+    told-kind p (eqb (length words) (listLength (later p) n k)) words
+    (omega (arith, length-low kind n k (told-is n k (toldFits n k) refl (w .told))))
 
 pub read-kind : (p : Kind) (n k : ℕ) (file : List ℕ) → Told n k → listKind p n k (listLength (fileKind p file) n k) ≡ fileKind p file
 unfolding fileKind listKind
-read-kind Corridor n k file t = refl
-read-kind Demands n k file t = measured (eqb (kindWord file) (kindNumber DemandsDownstream)) n k t
-read-kind DemandsDownstream n k file t = refl
-read-kind Record n k file t = refl
-read-kind Plan n k file t = refl
+read-kind p n k file t =
+    ap (λ (x : ℕ). cond (eqb x (listLength (later p) n k)) (later p) p) (sym (told-by (λ kind. listLength kind n k) p (saysLater p file)))
+    ∙ chosen-back p (listLength p n k) (listLength (later p) n k) (later-length p n k t) (saysLater p file)
 
 -- ---- words written and then read come back the same
 

@@ -12,6 +12,8 @@ use tables::Answer;
 // What a file holds.
 pub enum Kind {
     Corridor,
+    // A corridor with dropped capacity and drop density at each node's end.
+    CorridorDrop,
     Demands,
     // Demands with the flow that may leave link N, by step.
     DemandsDownstream,
@@ -19,23 +21,23 @@ pub enum Kind {
     Plan,
 }
 
-// A corridor out of a file.
+// A corridor out of a file: word 0 of its first block chooses its kind, and a list lent for the other kind has a wrong length.
 pub fn read_corridor(n: u32, k: u32, file: &[u8], words: &mut [u32]) -> Answer
-    ensures answered { λ r. ⌜ r ≡ readAnswer Corridor n k (now (file .entry)) (length (now (words .entry))) ⌝ }
-    ensures lent { λ _. ⌜ now (words .exit) ≡ wordsRead Corridor n k (now (file .entry)) (now (words .entry)) ⌝ }
+    ensures answered { λ r. ⌜ r ≡ readAnswer (fileKind Corridor (now (file .entry))) n k (now (file .entry)) (length (now (words .entry))) ⌝ }
+    ensures lent { λ _. ⌜ now (words .exit) ≡ wordsRead (fileKind Corridor (now (file .entry))) n k (now (file .entry)) (now (words .entry)) ⌝ }
 {
-    calls::read_list(Kind::Corridor, n, k, file, words)
+    calls::read_chosen(Kind::Corridor, n, k, file, words)
 }
 
-// A corridor into a file.
+// A corridor into a file: its length chooses the kind.
 pub fn write_corridor(n: u32, k: u32, words: &[u32], file: &mut [u8]) -> Answer
-    ensures answered { λ r. ⌜ r ≡ writeAnswer Corridor n k (now (words .entry)) (length (now (file .entry))) ⌝ }
-    ensures lent { λ _. ⌜ now (file .exit) ≡ fileWritten Corridor n k (now (words .entry)) (now (file .entry)) ⌝ }
+    ensures answered { λ r. ⌜ r ≡ writeAnswer (listKind Corridor n k (length (now (words .entry)))) n k (now (words .entry)) (length (now (file .entry))) ⌝ }
+    ensures lent { λ _. ⌜ now (file .exit) ≡ fileWritten (listKind Corridor n k (length (now (words .entry)))) n k (now (words .entry)) (now (file .entry)) ⌝ }
 {
-    calls::write_list(Kind::Corridor, n, k, words, file)
+    calls::write_chosen(Kind::Corridor, n, k, words, file)
 }
 
-// Demands out of a file: word 0 of its first block chooses their kind, and a list lent for the other kind has a wrong length.
+// Demands out of a file: chosen in the same way.
 pub fn read_demands(n: u32, k: u32, file: &[u8], words: &mut [u32]) -> Answer
     ensures answered { λ r. ⌜ r ≡ readAnswer (fileKind Demands (now (file .entry))) n k (now (file .entry)) (length (now (words .entry))) ⌝ }
     ensures lent { λ _. ⌜ now (words .exit) ≡ wordsRead (fileKind Demands (now (file .entry))) n k (now (file .entry)) (now (words .entry)) ⌝ }

@@ -25,12 +25,16 @@ use Rattle.block.specs.Calls.{toldFits, fileAnswer}
 use Rattle.block.proofs.Calls.{told-is, file-kept, file-bytes}
 use Rattle.files.specs.Files.{corridorIn, demandsIn, recordIn, filesAnswer, readThenCheck, checkFiles, convertFiles, planFile, planWritten}
 use Rattle.files.specs.Fits.{FilesFit, Accepts, wordsAnswer}
+use Rattle.files.proofs.Corridors.{corridor-count, corridor-own}
 use Rattle.files.proofs.Demands.{demands-own}
 use Rattle.files.proofs.Contents.{read-sizes, read-length}
 
--- ---- the three files in turn: a, b and c are their answers as calls gave them, and kind what the demands' file chose
+-- ---- the three files in turn: a, b and c are their answers as calls gave them, `first` what the corridor's file chose and kind what the demands' did
 
-module _ (n k : ℕ) (corridor demands recorded : List ℕ) (a : Answer) (e : a ≡ fileAnswer Corridor n k corridor) where
+module _ (n k : ℕ) (corridor demands recorded : List ℕ) (first : Kind) (s : first ≡ fileKind Corridor corridor) (a : Answer) (t : a ≡ fileAnswer first n k corridor) where
+  e : a ≡ fileAnswer (fileKind Corridor corridor) n k corridor
+  e = t ∙ ap (λ (x : Kind). fileAnswer x n k corridor) s
+
   pub files-first : Refuses a → a ≡ filesAnswer n k corridor demands recorded
   unfolding filesAnswer
   files-first h = or-else-stop a _ _ e h
@@ -53,14 +57,14 @@ pub files-fit : (n k : ℕ) (corridor demands recorded : List ℕ) (a : Answer) 
     → FilesFit n k corridor demands recorded
 unfolding filesAnswer ownAgrees listLength
 files-fit n k corridor demands recorded a told e h =
-    let r = orElse-accepts (fileAnswer Corridor n k corridor) _ .0 (sym e ∙ h) in
+    let r = orElse-accepts (fileAnswer (fileKind Corridor corridor) n k corridor) _ .0 (sym e ∙ h) in
     let s = orElse-accepts (fileAnswer (fileKind Demands demands) n k demands) (fileAnswer Record n k recorded) .0 (r .1) in
     record {
       told = told;
-      corridorHolds = file-bytes Corridor n k corridor _ refl (r .0);
+      corridorHolds = file-bytes (fileKind Corridor corridor) n k corridor _ refl (r .0) ∙ ap (λ (m : ℕ). blocksFor m * 512) (corridor-count n k corridor);
       demandsHold = file-bytes (fileKind Demands demands) n k demands _ refl (s .0);
       recordHolds = file-bytes Record n k recorded _ refl (s .1);
-      ownLinks = eqb-true (payloadWord corridor 0) n (file-kept Corridor n k corridor .0 (r .0) .own);
+      ownLinks = eqb-true (payloadWord corridor 0) n (sym (corridor-own n k corridor) ∙ file-kept (fileKind Corridor corridor) n k corridor .0 (r .0) .own);
       ownSteps = eqb-true (payloadWord demands 0) k (sym (demands-own n k demands) ∙ file-kept (fileKind Demands demands) n k demands .0 (s .0) .own);
     }
 

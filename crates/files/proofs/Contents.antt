@@ -12,17 +12,19 @@ use Rattle.tables.proofs.Answers.{Refuses, or-else-stop, or-else-next}
 use Rattle.tables.proofs.Tabulate.{tabulate-length, tabulate-at}
 use Rattle.road.specs.Run.{cost}
 use Rattle.faults.specs.Records.{totalFault}
-use Rattle.lists.specs.Words.{linksOf, stepsOf, roadOf, recordWidth, traceOf, corridorLength, traceLength, recordLength}
+use Rattle.lists.specs.Words.{linksOf, stepsOf, roadOf, recordWidth, traceOf, traceLength, recordLength}
 use Rattle.lists.specs.Refusals.{sizes, ranges}
 use Rattle.lists.specs.Fits.{CorridorFits, DemandsFit}
-use Rattle.lists.proofs.Limits.{DemandsSized, sizes-iff}
+use Rattle.lists.proofs.Limits.{CorridorSized, DemandsSized, sizes-iff}
+use Rattle.lists.proofs.Corridors.{sized-words}
 use Rattle.convert.specs.Refusals.{costFault, judged}
 use Rattle.convert.specs.Rows.{bareRoad, fixedRefusal, stepsRefusal, Ready}
 use Rattle.convert.proofs.Answers.{ready, ready-as, cost-told, judged-fixed, judged-steps, judged-cost}
 use Rattle.payload.specs.File.{blocksFor, payloadWord, payloadPart}
 use Rattle.payload.proofs.Payloads.{payload-all}
-use Rattle.files.specs.Files.{corridorIn, demandsCount, demandsIn, recordIn}
+use Rattle.files.specs.Files.{corridorCount, corridorIn, demandsCount, demandsIn, recordIn}
 use Rattle.files.specs.Fits.{Holds, FilesFit, Accepts, wordsAnswer, FilesReady, FilesKept}
+use Rattle.files.proofs.Corridors.{corridor-sized}
 use Rattle.files.proofs.Demands.{count-low, count-sized}
 
 -- the cost's two words, read where they stand: v is the fault's number as the code has it, and a the answer that is made of it
@@ -42,11 +44,14 @@ cost-read links steps at w total v low high file a l h e p q t r =
 module _ (links steps : ℕ) (corridor demands recorded : List ℕ) (fit : FilesFit links steps corridor demands recorded) where
   pub own-links : linksOf (corridorIn links corridor) ≡ links
   unfolding linksOf
-  own-links = tabulate-at (corridorLength links) (payloadWord corridor) 0 0 (omega arith) ∙ fit .ownLinks
+  own-links = tabulate-at (corridorCount links corridor) (payloadWord corridor) 0 0 (omega arith) ∙ fit .ownLinks
 
   pub own-steps : stepsOf (demandsIn links steps demands) ≡ steps
   unfolding stepsOf
   own-steps = tabulate-at (demandsCount links steps demands) (payloadWord demands) 0 0 (omega (arith, count-low links steps demands)) ∙ fit .ownSteps
+
+  corridor-holds : CorridorSized links (length (corridorIn links corridor))
+  corridor-holds = subst (CorridorSized links) (sym (tabulate-length (corridorCount links corridor) (payloadWord corridor))) (corridor-sized links corridor)
 
   pub read-sizes : sizes (corridorIn links corridor) (demandsIn links steps demands) ≡ true
   read-sizes =
@@ -57,7 +62,7 @@ module _ (links steps : ℕ) (corridor demands recorded : List ℕ) (fit : Files
       (record {
         links = record { above = omega (arith, told .linksLow); below = omega (arith, told .linksHigh) };
         steps = record { above = omega (arith, told .stepsLow); below = omega (arith, told .stepsHigh) };
-        corridorFits = tabulate-length (corridorLength links) (payloadWord corridor) ∙ ap corridorLength (sym n);
+        corridorFits = subst (λ (l : ℕ). CorridorSized l (length (corridorIn links corridor))) (sym n) corridor-holds;
         demandsFit =
             subst₂ (λ (l s : ℕ). DemandsSized l s (length (demandsIn links steps demands))) (sym n) (sym k)
             (subst (DemandsSized links steps) (sym (tabulate-length (demandsCount links steps demands) (payloadWord demands))) (count-sized links steps demands));
@@ -74,14 +79,14 @@ module _ (links steps : ℕ) (corridor demands recorded : List ℕ) (fit : Files
 
   -- ---- the corridor's recorded are unpacked into a list
 
-  module _ (count : ℕ) (list : List ℕ) (told : list ≡ payloadPart 0 count corridor) (fits : count ≡ corridorLength links) where
+  module _ (count : ℕ) (list : List ℕ) (told : list ≡ payloadPart 0 count corridor) (fits : count ≡ corridorCount links corridor) where
     pub corridor-read : corridorIn links corridor ≡ list
-    corridor-read = sym (told ∙ ap (λ (n : ℕ). payloadPart 0 n corridor) fits ∙ payload-all (corridorLength links) corridor)
+    corridor-read = sym (told ∙ ap (λ (n : ℕ). payloadPart 0 n corridor) fits ∙ payload-all (corridorCount links corridor) corridor)
 
     pub list-corridor : CorridorFits list links
     list-corridor =
         subst (λ (x : List ℕ). CorridorFits x links) corridor-read
-        (record { first = sym own-links; few = fit .told .linksHigh; words = tabulate-length (corridorLength links) (payloadWord corridor) })
+        (record { first = sym own-links; few = fit .told .linksHigh; words = sized-words links (length (corridorIn links corridor)) corridor-holds })
 
     pub list-demands : DemandsFit (demandsIn links steps demands) links steps
     list-demands =

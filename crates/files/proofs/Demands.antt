@@ -12,38 +12,29 @@ use Rattle.tables.proofs.Tabulate.{tabulate-at, tabulate-past}
 use Rattle.lists.specs.Words.{demandsLength, downstreamLength, free}
 use Rattle.lists.proofs.Limits.{DemandsSized}
 use Rattle.payload.specs.File.{payloadWord}
-use Rattle.block.specs.declared.Kind.{Kind}
 use Rattle.block.specs.declared.Kind.the-variants.{Demands, DemandsDownstream}
-use Rattle.block.specs.Kinds.{kindNumber, listLength, ownAgrees, kindWord, fileKind}
+use Rattle.block.specs.Kinds.{listLength, ownAgrees, later, saysLater, fileKind}
+use Rattle.block.proofs.Chosen.{of-either}
 use Rattle.files.specs.Files.{demandsCount, demandsIn}
 use Rattle.files.specs.Fits.{downstreamIn}
 
--- what holds of both kinds holds of the kind that a file chooses
-chosen : (P : Kind → Type 0) (file : List ℕ) → P DemandsDownstream → P Demands → P (fileKind Demands file)
-unfolding fileKind
-chosen P file long short = by (eqb (kindWord file) (kindNumber DemandsDownstream))
-  where
-    by : (t : Bool) → P (cond t DemandsDownstream Demands)
-    by true = long
-    by false = short
-
 pub count-sized : (links steps : ℕ) (file : List ℕ) → DemandsSized links steps (demandsCount links steps file)
-unfolding listLength
-count-sized links steps file = chosen (λ kind. DemandsSized links steps (listLength kind links steps)) file (inr refl) (inl refl)
+unfolding listLength later
+count-sized links steps file = of-either (λ kind. DemandsSized links steps (listLength kind links steps)) Demands file (inr refl) (inl refl)
 
 pub count-low : (links steps : ℕ) (file : List ℕ) → demandsLength links steps ≤ demandsCount links steps file
-unfolding listLength
-count-low links steps file = chosen (λ kind. demandsLength links steps ≤ listLength kind links steps) file (omega arith) (omega arith)
+unfolding listLength later
+count-low links steps file = of-either (λ kind. demandsLength links steps ≤ listLength kind links steps) Demands file (omega arith) (omega arith)
 
 pub demands-own : (n k : ℕ) (file : List ℕ) → ownAgrees (fileKind Demands file) n k (payloadWord file 0) ≡ eqb (payloadWord file 0) k
-unfolding ownAgrees
-demands-own n k file = chosen (λ kind. ownAgrees kind n k (payloadWord file 0) ≡ eqb (payloadWord file 0) k) file refl refl
+unfolding ownAgrees later
+demands-own n k file = of-either (λ kind. ownAgrees kind n k (payloadWord file 0) ≡ eqb (payloadWord file 0) k) Demands file refl refl
 
 -- ---- the flow that may leave link N: `has` is whether the file has it, and `rows` how many words its rows have, as the code has them
 
-module _ (links steps k : ℕ) (file : List ℕ) (has : Bool) (e : has ≡ eqb (kindWord file) (kindNumber DemandsDownstream)) where
+module _ (links steps k : ℕ) (file : List ℕ) (has : Bool) (e : has ≡ saysLater Demands file) where
   count-is : demandsCount links steps file ≡ listLength (cond has DemandsDownstream Demands) links steps
-  unfolding fileKind
+  unfolding fileKind later
   count-is = ap (λ (t : Bool). listLength (cond t DemandsDownstream Demands) links steps) (sym e)
 
   module _ (long : has ≡ true) (rows : ℕ) (r : rows ≡ steps * ((links + 1) * 2)) where

@@ -1,3 +1,4 @@
+pub mod Corridors
 pub mod Demands
 pub mod Rows
 pub mod Contents

@@ -8,7 +8,7 @@ use lib.ListN.{length, take, drop}
 use Rattle.tables.proofs.Grid.{rowWords-length}
 use Rattle.tables.proofs.Numbers.{row-fits}
 use Rattle.tables.proofs.Tabulate.{tabulate-length}
-use Rattle.lists.specs.Words.{recordWidth, planLength, corridorLength}
+use Rattle.lists.specs.Words.{recordWidth, planLength}
 use Rattle.lists.proofs.Words.{record-wide}
 use Rattle.convert.specs.Convert.{converted}
 use Rattle.convert.specs.Rows.{planRow, settingWord, Ready}
@@ -19,7 +19,7 @@ use Rattle.payload.proofs.Payloads.{payload-put, put-length-same}
 use Rattle.block.specs.declared.Kind.the-variants.{Plan}
 use Rattle.block.specs.Kinds.{Told, kindNumber, listLength}
 use Rattle.block.proofs.Calls.{length-high}
-use Rattle.files.specs.Files.{demandsIn, recordIn, planFile}
+use Rattle.files.specs.Files.{corridorCount, demandsIn, recordIn, planFile}
 use Rattle.files.specs.Fits.{Holds, FilesFit, demandRowIn, downstreamIn, stateRowIn, planRowIn}
 use Rattle.files.proofs.Rows.{demand-part, state-part}
 use Rattle.files.proofs.Contents.{corridor-read}
@@ -100,7 +100,7 @@ seal-fits links steps m room t h e =
     (omega arith, omega arith)
 
 pub plan-sealed : (links steps : ℕ) (corridor demands recorded : List ℕ) → FilesFit links steps corridor demands recorded
-    → (count : ℕ) (list : List ℕ) → list ≡ payloadPart 0 count corridor → count ≡ corridorLength links
+    → (count : ℕ) (list : List ℕ) → list ≡ payloadPart 0 count corridor → count ≡ corridorCount links corridor
     → (m : ℕ) (file sealed : List ℕ) → m ≡ steps * ((links + 1) * 2) → payloadOf (planLength links steps) file ≡ converted list (demandsIn links steps demands) (recordIn recordWidth links steps recorded)
     → sealed ≡ fileOf 4 (payloadOf m file) → sealed ≡ planFile links steps corridor demands recorded
 unfolding planFile kindNumber

@@ -27,6 +27,7 @@ use Rattle.files.specs.Files.{corridorIn, demandsIn, recordIn, filesAnsw
 use Rattle.files.specs.Fits.{FilesFit}
 use Rattle.files.specs.Turns.{inTurn, Turns}
 use Rattle.files.proofs.Contents.{own-links, own-steps}
+use Rattle.files.proofs.Corridors.{corridor-count}
 use Rattle.files.proofs.Answers.{files-fit}
 
 -- an answer that comes second counts only where the first accepts
@@ -34,19 +35,19 @@ pub second-same : (a x y : Answer) → (a ≡ Accepted → x ≡ y) → orElse a
 second-same Accepted x y h = h refl
 second-same (Refused number row node) x y h = refl
 
--- ---- one reader, told a good N and K, into a list of the right length
+-- ---- one reader, told a good N and K, into a list of the right length, which is `count`
 
-module _ (kind : Kind) (n k : ℕ) (file lent : List ℕ) (told : toldFits n k ≡ true) (fits : length lent ≡ listLength kind n k) where
+module _ (kind : Kind) (n k : ℕ) (file lent : List ℕ) (told : toldFits n k ≡ true) (fits : length lent ≡ listLength kind n k) (count : ℕ) (is : listLength kind n k ≡ count) where
   read-is : readAnswer kind n k file (length lent) ≡ fileAnswer kind n k file
   unfolding readAnswer
   read-is = ap₂ (λ (x y : Bool). orElse (sized (x && y)) (fileAnswer kind n k file)) told (eq-eqb _ _ fits)
 
-  recorded-are : fileAnswer kind n k file ≡ Accepted → wordsRead kind n k file lent ≡ payloadOf (listLength kind n k) file
+  recorded-are : fileAnswer kind n k file ≡ Accepted → wordsRead kind n k file lent ≡ payloadOf count file
   unfolding wordsRead
-  recorded-are h = ap (λ (x : Answer). left x (payloadOf (listLength kind n k) file) lent) (read-is ∙ h)
+  recorded-are h = ap (λ (x : Answer). left x (payloadOf (listLength kind n k) file) lent) (read-is ∙ h) ∙ ap (λ (m : ℕ). payloadOf m file) is
 
   one-turn : (rest : List ℕ → Answer)
-      → orElse (fileAnswer kind n k file) (rest (payloadOf (listLength kind n k) file)) ≡ orElse (readAnswer kind n k file (length lent)) (rest (wordsRead kind n k file lent))
+      → orElse (fileAnswer kind n k file) (rest (payloadOf count file)) ≡ orElse (readAnswer kind n k file (length lent)) (rest (wordsRead kind n k file lent))
   one-turn rest =
       second-same _ _ _ (λ h. ap rest (sym (recorded-are h)))
       ∙ ap (λ (x : Answer). orElse x (rest (wordsRead kind n k file lent))) (sym read-is)
@@ -54,17 +55,17 @@ module _ (kind : Kind) (n k : ℕ) (file lent : List ℕ) (told : toldFits n k �
 -- ---- all three
 
 module _ (n k : ℕ) (corridor demands recorded a b c : List ℕ) (told : toldFits n k ≡ true)
-    (p : length a ≡ listLength Corridor n k) (q : length b ≡ listLength (fileKind Demands demands) n k) (r : length c ≡ listLength Record n k) where
+    (p : length a ≡ listLength (fileKind Corridor corridor) n k) (q : length b ≡ listLength (fileKind Demands demands) n k) (r : length c ≡ listLength Record n k) where
   turns : (rest : List ℕ → List ℕ → List ℕ → Answer)
       → orElse (filesAnswer n k corridor demands recorded) (rest (corridorIn n corridor) (demandsIn n k demands) (recordIn recordWidth n k recorded)) ≡ inTurn n k corridor demands recorded a b c rest
   unfolding filesAnswer inTurn listLength
   turns rest =
-      orElse-assoc (fileAnswer Corridor n k corridor) _ _
-      ∙ ap (orElse (fileAnswer Corridor n k corridor))
+      orElse-assoc (fileAnswer (fileKind Corridor corridor) n k corridor) _ _
+      ∙ ap (orElse (fileAnswer (fileKind Corridor corridor) n k corridor))
       (orElse-assoc (fileAnswer (fileKind Demands demands) n k demands) _ _
-      ∙ ap (orElse (fileAnswer (fileKind Demands demands) n k demands)) (one-turn Record n k recorded c told r (λ z. rest (corridorIn n corridor) (demandsIn n k demands) z))
-      ∙ one-turn (fileKind Demands demands) n k demands b told q (λ y. orElse (readAnswer Record n k recorded (length c)) (rest (corridorIn n corridor) y (wordsRead Record n k recorded c))))
-      ∙ one-turn Corridor n k corridor a told p
+      ∙ ap (orElse (fileAnswer (fileKind Demands demands) n k demands)) (one-turn Record n k recorded c told r _ refl (λ z. rest (corridorIn n corridor) (demandsIn n k demands) z))
+      ∙ one-turn (fileKind Demands demands) n k demands b told q _ refl (λ y. orElse (readAnswer Record n k recorded (length c)) (rest (corridorIn n corridor) y (wordsRead Record n k recorded c))))
+      ∙ one-turn (fileKind Corridor corridor) n k corridor a told p _ (corridor-count n k corridor)
       (λ x. orElse (readAnswer (fileKind Demands demands) n k demands (length b)) (orElse (readAnswer Record n k recorded (length c)) (rest x (wordsRead (fileKind Demands demands) n k demands b) (wordsRead Record n k recorded c))))
 
   -- the converter's plan of lists with this N and K has the right length for them
@@ -100,17 +101,17 @@ module _ (n k : ℕ) (corridor demands recorded a b c : List ℕ) (told : toldFi
 
   written : (lent : List ℕ) → filesAnswer n k corridor demands recorded ≡ Accepted → eqb (length lent) (blocksFor (planLength n k) * 512) ≡ true
       → planFile n k corridor demands recorded
-      ≡ fileWritten Plan n k (converted (wordsRead Corridor n k corridor a) (wordsRead (fileKind Demands demands) n k demands b) (wordsRead Record n k recorded c)) lent
+      ≡ fileWritten Plan n k (converted (wordsRead (fileKind Corridor corridor) n k corridor a) (wordsRead (fileKind Demands demands) n k demands b) (wordsRead Record n k recorded c)) lent
   unfolding filesAnswer planFile fileWritten listLength
   written lent h room =
       let fit = files-fit n k corridor demands recorded _ (told-is n k _ refl told) refl h in
-      let first = orElse-accepts (fileAnswer Corridor n k corridor) _ .0 h in
+      let first = orElse-accepts (fileAnswer (fileKind Corridor corridor) n k corridor) _ .0 h in
       let rest = orElse-accepts (fileAnswer (fileKind Demands demands) n k demands) (fileAnswer Record n k recorded) .0 (first .1) in
       let plan : List ℕ = converted (corridorIn n corridor) (demandsIn n k demands) (recordIn recordWidth n k recorded) in
-      let same : converted (wordsRead Corridor n k corridor a) (wordsRead (fileKind Demands demands) n k demands b) (wordsRead Record n k recorded c) ≡ plan =
+      let same : converted (wordsRead (fileKind Corridor corridor) n k corridor a) (wordsRead (fileKind Demands demands) n k demands b) (wordsRead Record n k recorded c) ≡ plan =
       λ z.
-      converted (recorded-are Corridor n k corridor a told p (first .0) z) (recorded-are (fileKind Demands demands) n k demands b told q (rest .0) z)
-      (recorded-are Record n k recorded c told r (rest .1) z) in
+      converted (recorded-are (fileKind Corridor corridor) n k corridor a told p _ (corridor-count n k corridor) (first .0) z) (recorded-are (fileKind Demands demands) n k demands b told q _ refl (rest .0) z)
+      (recorded-are Record n k recorded c told r _ refl (rest .1) z) in
       sym (ap (λ (x : Answer). left x (fileOf (kindNumber Plan) plan) lent) (plan-taken (length lent) fit room))
       ∙ ap (λ (x : List ℕ). fileWritten Plan n k x lent) (sym same)
 
@@ -119,7 +120,7 @@ pub sized-same : (t : Bool) (x y : Answer) → (t ≡ true → x ≡ y) → orEl
 sized-same true x y h = h refl
 sized-same false x y h = refl
 
-pub as-lists : (n k : ℕ) (corridor demands recorded a b c : List ℕ) → length a ≡ listLength Corridor n k → length b ≡ listLength (fileKind Demands demands) n k → length c ≡ listLength Record n k
+pub as-lists : (n k : ℕ) (corridor demands recorded a b c : List ℕ) → length a ≡ listLength (fileKind Corridor corridor) n k → length b ≡ listLength (fileKind Demands demands) n k → length c ≡ listLength Record n k
     → Turns n k corridor demands recorded a b c
 unfolding checkFiles convertFiles readThenCheck planWritten
 as-lists n k corridor demands recorded a b c p q r =

@@ -1,6 +1,6 @@
 -- Checker and converter on block files: "Told N and K, they give 1 for a bad one or a wrong output length, then read corridor, demands and
 -- record in turn; the converter writes a plan file."
-use mathlib.Core.Bool.{_&&_}
+use mathlib.Core.Bool.{cond, _&&_}
 use mathlib.Core.List.{List}
 use Prim.Native.Nat.{ℕ, _*_}
 use lib.Dec.{eqb}
@@ -11,15 +11,19 @@ use Rattle.lists.specs.Words.{recordWidth, corridorLength, planLength, recordLe
 use Rattle.convert.specs.Convert.{checkAnswer, converted}
 use Rattle.payload.specs.File.{blocksFor, payloadOf, fileOf}
 use Rattle.block.specs.declared.Kind.the-variants.{Corridor, Demands, Record, Plan}
-use Rattle.block.specs.Kinds.{kindNumber, listLength, fileKind}
+use Rattle.block.specs.Kinds.{kindNumber, listLength, saysLater, fileKind}
 use Rattle.block.specs.Calls.{toldFits, fileAnswer}
 
 -- ---- the words of each file, told N and K: `recorded` is a record's file
 
-abbrev pub corridorIn : ℕ → List ℕ → List ℕ
-corridorIn n file = payloadOf (corridorLength n) file
+-- a corridor of kind 1 or of kind 10, as word 0 of its file chooses: how many words it has, which K has no part in, and these words
+abbrev pub corridorCount : ℕ → List ℕ → ℕ
+corridorCount n file = corridorLength (cond (saysLater Corridor file) 11 9) n
 
--- demands of kind 2 or of kind 5, as word 0 of their file chooses: how many words they have, and these words
+abbrev pub corridorIn : ℕ → List ℕ → List ℕ
+corridorIn n file = payloadOf (corridorCount n file) file
+
+-- demands of kind 2 or of kind 5, chosen in the same way
 abbrev pub demandsCount : ℕ → ℕ → List ℕ → ℕ
 demandsCount n k file = listLength (fileKind Demands file) n k
 
@@ -34,7 +38,7 @@ recordIn width n k file = payloadOf (recordLength width n k) file
 -- 14 to 18, and 1 for an own N or K that differs: each file is read whole before the next
 unfoldable pub filesAnswer : ℕ → ℕ → List ℕ → List ℕ → List ℕ → Answer
 filesAnswer n k corridor demands recorded =
-    orElse (fileAnswer Corridor n k corridor) (orElse (fileAnswer (fileKind Demands demands) n k demands) (fileAnswer Record n k recorded))
+    orElse (fileAnswer (fileKind Corridor corridor) n k corridor) (orElse (fileAnswer (fileKind Demands demands) n k demands) (fileAnswer Record n k recorded))
 
 -- then what the checker answers to the words that were read
 unfoldable pub readThenCheck : ℕ → ℕ → List ℕ → List ℕ → List ℕ → Answer

@@ -6,13 +6,13 @@ use lib.ListN.{length}
 use Rattle.tables.specs.declared.Answer.{Answer}
 use Rattle.tables.specs.declared.Answer.the-variants.{Accepted}
 use Rattle.tables.specs.Answer.{orElse}
-use Rattle.lists.specs.Words.{downstreamWord, roadOf, recordWidth, corridorLength, planLength, recordLength}
+use Rattle.lists.specs.Words.{downstreamWord, roadOf, recordWidth, planLength, recordLength}
 use Rattle.lists.specs.Refusals.{ranges}
 use Rattle.convert.specs.Refusals.{judged}
 use Rattle.convert.specs.Rows.{planRow, Ready}
 use Rattle.payload.specs.File.{blocksFor, payloadWord, payloadPart}
 use Rattle.block.specs.Kinds.{Told}
-use Rattle.files.specs.Files.{corridorIn, demandsCount, demandsIn, recordIn}
+use Rattle.files.specs.Files.{corridorCount, corridorIn, demandsCount, demandsIn, recordIn}
 
 -- a file has the blocks of m payload words
 abbrev pub Holds : ℕ → List ℕ → Type 0
@@ -21,7 +21,7 @@ Holds m file = length file ≡ blocksFor m * 512
 -- N and K are good, the three files have their blocks, and their own N and K are as told
 pub record FilesFit (links steps : ℕ) (corridor demands recorded : List ℕ) : Type 0 where
   pub told : Told links steps
-  pub corridorHolds : Holds (corridorLength links) corridor
+  pub corridorHolds : Holds (corridorCount links corridor) corridor
   pub demandsHold : Holds (demandsCount links steps demands) demands
   pub recordHolds : Holds (recordLength recordWidth links steps) recorded
   pub ownLinks : payloadWord corridor 0 ≡ links

@@ -17,13 +17,13 @@ use Rattle.block.specs.Kinds.{fileKind}
 use Rattle.block.specs.Calls.{toldFits, readAnswer, wordsRead, fileWritten}
 use Rattle.files.specs.Files.{checkFiles, convertFiles, planWritten}
 
--- the three readers in turn, into lists of the lengths that N, K and the demands' file tell, and then `rest` of what they read
+-- the three readers in turn, into lists of the lengths that N, K and their files tell, and then `rest` of what they read
 unfoldable pub inTurn : ℕ → ℕ → List ℕ → List ℕ → List ℕ → List ℕ → List ℕ → List ℕ → (List ℕ → List ℕ → List ℕ → Answer) → Answer
 inTurn n k corridor demands recorded a b c rest =
-    orElse (readAnswer Corridor n k corridor (length a))
+    orElse (readAnswer (fileKind Corridor corridor) n k corridor (length a))
     (orElse (readAnswer (fileKind Demands demands) n k demands (length b))
     (orElse (readAnswer Record n k recorded (length c))
-    (rest (wordsRead Corridor n k corridor a) (wordsRead (fileKind Demands demands) n k demands b) (wordsRead Record n k recorded c))))
+    (rest (wordsRead (fileKind Corridor corridor) n k corridor a) (wordsRead (fileKind Demands demands) n k demands b) (wordsRead Record n k recorded c))))
 
 pub record Turns (n k : ℕ) (corridor demands recorded a b c : List ℕ) : Type 0 where
   pub checks : checkFiles n k corridor demands recorded ≡ orElse (sized (toldFits n k)) (inTurn n k corridor demands recorded a b c checkAnswer)
@@ -35,4 +35,4 @@ pub record Turns (n k : ℕ) (corridor demands recorded a b c : List ℕ) : Type
   -- the file that the writer makes of the converter's plan
   pub writes : (lent : List ℕ) → convertFiles n k corridor demands recorded (length lent) ≡ Accepted
       → planWritten n k corridor demands recorded lent
-      ≡ fileWritten Plan n k (converted (wordsRead Corridor n k corridor a) (wordsRead (fileKind Demands demands) n k demands b) (wordsRead Record n k recorded c)) lent
+      ≡ fileWritten Plan n k (converted (wordsRead (fileKind Corridor corridor) n k corridor a) (wordsRead (fileKind Demands demands) n k demands b) (wordsRead Record n k recorded c)) lent

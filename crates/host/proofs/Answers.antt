@@ -17,7 +17,7 @@ use Rattle.road.specs.Corridor.{Link, Ramp, NodeState, Node, Road, Plan, Flows,
 use Rattle.road.specs.Step.{Junction, sending, outflow}
 use Rattle.road.specs.Run.{junction, next, cost}
 use Rattle.lists.specs.Words.{linksOf, stepsOf, roadOf, planOf, recordWidth, traceOf, traceLength, planLength, recordLength}
-use Rattle.faults.specs.Lists.{within, implies, linkFault, rampFault, startFault, demandFault, planFault}
+use Rattle.faults.specs.Lists.{within, implies, noLink, linkInRange, linkFault, rampFault, startFault, demandFault, planFault}
 use Rattle.lists.specs.Refusals.{fresh, linkRefusal, rampRefusal, startRefusal, demandRefusal, ranges, bounds, planBounds, sizes}
 use Rattle.lists.proofs.Limits.{sizes-iff}
 use Rattle.simulate.specs.Simulate.{simulateSizes, simulateAnswer, simulated}
@@ -39,9 +39,9 @@ use Rattle.convert.specs.Refusals.{costFault, fixedAt, stepAt, judged}
 link-small : (i : ℕ) (link : Link) → linkFault i link ≤ 255
 unfolding linkFault
 link-small zero link =
-    small-unless (eqb (link .capacity) 0 && (eqb (link .fullSpeed) 0 && (eqb (link .waveSpeed) 0 && eqb (link .jam) 0))) 2 (omega arith)
+    small-unless (noLink link) 2 (omega arith)
 link-small (suc i) link =
-    small-unless (leb (link .capacity) 65536 && (within 1 65536 (link .fullSpeed) && (within 1 65536 (link .waveSpeed) && within 1 65536 (link .jam)))) 2 (omega arith)
+    small-unless (linkInRange link) 2 (omega arith)
 
 ramp-small : (last : Bool) (identifier : ℕ) (ramp : Ramp) (isFresh : Bool) → rampFault last identifier ramp isFresh ≤ 255
 unfolding rampFault
@@ -214,7 +214,7 @@ module _ (n k : ℕ) (corridor demands recorded : List ℕ) where
   unfolding readThenCheck filesAnswer
   then-check-small t =
       small-orElse (filesAnswer n k corridor demands recorded) _
-      (small-orElse (fileAnswer Corridor n k corridor) _ (file-small Corridor n k corridor t)
+      (small-orElse (fileAnswer (fileKind Corridor corridor) n k corridor) _ (file-small (fileKind Corridor corridor) n k corridor t)
       (small-orElse (fileAnswer (fileKind Demands demands) n k demands) _ (file-small (fileKind Demands demands) n k demands t) (file-small Record n k recorded t)))
       (check-small (corridorIn n corridor) (demandsIn n k demands) (recordIn recordWidth n k recorded))
 

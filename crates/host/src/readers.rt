@@ -9,8 +9,8 @@ use crate::inner;
 
 #[no_mangle]
 pub extern "C" fn gigorchid_read_corridor(n: u32, k: u32, file: &[u8], words: &mut [u32]) -> u32
-    ensures answered { λ r. ⌜ r ≡ hostNumber (readAnswer Corridor n k (now (file .entry)) (length (now (words .entry)))) ⌝ }
-    ensures lent { λ _. ⌜ now (words .exit) ≡ wordsRead Corridor n k (now (file .entry)) (now (words .entry)) ⌝ }
+    ensures answered { λ r. ⌜ r ≡ hostNumber (readAnswer (fileKind Corridor (now (file .entry))) n k (now (file .entry)) (length (now (words .entry)))) ⌝ }
+    ensures lent { λ _. ⌜ now (words .exit) ≡ wordsRead (fileKind Corridor (now (file .entry))) n k (now (file .entry)) (now (words .entry)) ⌝ }
 {
     let answer = block::read_corridor(n, k, file, words);
     inner::number(answer)
@@ -18,8 +18,8 @@ pub extern "C" fn gigorchid_read_corridor(n: u32, k: u32, file: &[u8], words: &m
 
 #[no_mangle]
 pub extern "C" fn gigorchid_write_corridor(n: u32, k: u32, words: &[u32], file: &mut [u8]) -> u32
-    ensures answered { λ r. ⌜ r ≡ hostNumber (writeAnswer Corridor n k (now (words .entry)) (length (now (file .entry)))) ⌝ }
-    ensures lent { λ _. ⌜ now (file .exit) ≡ fileWritten Corridor n k (now (words .entry)) (now (file .entry)) ⌝ }
+    ensures answered { λ r. ⌜ r ≡ hostNumber (writeAnswer (listKind Corridor n k (length (now (words .entry)))) n k (now (words .entry)) (length (now (file .entry)))) ⌝ }
+    ensures lent { λ _. ⌜ now (file .exit) ≡ fileWritten (listKind Corridor n k (length (now (words .entry)))) n k (now (words .entry)) (now (file .entry)) ⌝ }
 {
     let answer = block::write_corridor(n, k, words, file);
     inner::number(answer)

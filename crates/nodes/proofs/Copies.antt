@@ -16,19 +16,19 @@ use Rattle.nodes.specs.declared.inner.words.Words.{Words}
 use Rattle.tables.proofs.Sets.{all}
 use Rattle.nodes.specs.Nodes.{nodeWords, nodeIn, corridorWords, taken, wordCount, given, wordsTaken, withNode}
 use Rattle.nodes.proofs.Counts.{taken-all, taken-bound, none-or-all, count-none, count-all}
-use Rattle.nodes.proofs.Words.{nine, words-length, words-first, words-at, taken-none, taken-whole}
+use Rattle.nodes.proofs.Words.{eleven, words-length, words-first, words-at, taken-none, taken-whole}
 use Rattle.nodes.proofs.inner.words.Words as T
 use Rattle.nodes.proofs.inner.words.Words.Laws as T′
 
--- the array has 586 places, which whoever holds it knows
-pub as-long : (w : Words) (vs : List Val) → Is T.the-row w vs → length (w .at) ≡ 586
+-- the array has 716 places, which whoever holds it knows
+pub as-long : (w : Words) (vs : List Val) → Is T.the-row w vs → length (w .at) ≡ 716
 as-long w vs p = sym (length-map (w .at) (λ (v : ℕ). v)) ∙ LL.owed T.the-type T′.the-laws w vs p .1 .0 .1 .0 .1
 
 -- the words that are given stand in it
-pub inside : (w : Words) (vs : List Val) → Is T.the-row w vs → w .length ≤ 586 → w .length ≤ length (w .at)
+pub inside : (w : Words) (vs : List Val) → Is T.the-row w vs → w .length ≤ 716 → w .length ≤ length (w .at)
 inside w vs p h = omega (arith, as-long w vs p)
 
-pub as-many : (w : Words) (vs : List Val) → Is T.the-row w vs → w .length ≤ 586 → w .length ≡ length (given w)
+pub as-many : (w : Words) (vs : List Val) → Is T.the-row w vs → w .length ≤ 716 → w .length ≡ length (given w)
 as-many w vs p h = sym (length-take-le (w .length) (w .at) (inside w vs p h))
 
 pub ruleset front = (all, inside, as-many)
@@ -52,7 +52,7 @@ sets-within (v ∷ vs) l k (suc p) h r =
 module _ (nodes : List Node) where
   pub record Upto (i : ℕ) (w : Words) : Type 0 where
     pub count : w .length ≡ wordCount (taken (length nodes))
-    pub front : 2 ≤ length nodes → length nodes ≤ 65 → (j : ℕ) → j < i * 9 + 1 → getD (w .at) j 0 ≡ getD (corridorWords nodes) j 0
+    pub front : 2 ≤ length nodes → length nodes ≤ 65 → (j : ℕ) → j < i * 11 + 1 → getD (w .at) j 0 ≡ getD (corridorWords nodes) j 0
 
   pub upto-begun : (w : Words) → (w .length ≡ wordCount (taken (length nodes))) × (getD (w .at) 0 0 ≡ taken (length nodes) - 1) → Upto 0 w
   upto-begun w e =
@@ -64,36 +64,36 @@ module _ (nodes : List Node) where
             ap (λ (k : ℕ). getD (w .at) k 0) z ∙ e .1 ∙ ap (λ (k : ℕ). k - 1) t ∙ sym (words-first nodes) ∙ ap (λ (k : ℕ). getD (corridorWords nodes) k 0) (sym z);
       }
 
-  pub upto-more : (i : ℕ) (w w′ : Words) (node : Node) → i < taken (length nodes) → length (w .at) ≡ 586 → node ≡ nodeIn nodes i
-      → (w′ .length ≡ w .length) × (w′ .at ≡ withNode (w .at) (i * 9 + 1) node) → Upto i w → Upto (i + 1) w′
+  pub upto-more : (i : ℕ) (w w′ : Words) (node : Node) → i < taken (length nodes) → length (w .at) ≡ 716 → node ≡ nodeIn nodes i
+      → (w′ .length ≡ w .length) × (w′ .at ≡ withNode (w .at) (i * 11 + 1) node) → Upto i w → Upto (i + 1) w′
   upto-more i w w′ node h l d e a =
       record {
         count = e .0 ∙ a .count;
         front = λ p q j b.
-            let s : w′ .at ≡ withNode (w .at) (i * 9 + 1) (nodeIn nodes i) = e .1 ∙ ap (withNode (w .at) (i * 9 + 1)) d in
+            let s : w′ .at ≡ withNode (w .at) (i * 11 + 1) (nodeIn nodes i) = e .1 ∙ ap (withNode (w .at) (i * 11 + 1)) d in
             ap (λ (k : List ℕ). getD k j 0) s ∙ stored p q j b;
       }
     where
-      stored : 2 ≤ length nodes → length nodes ≤ 65 → (j : ℕ) → j < (i + 1) * 9 + 1 → getD (withNode (w .at) (i * 9 + 1) (nodeIn nodes i)) j 0 ≡ getD (corridorWords nodes) j 0
+      stored : 2 ≤ length nodes → length nodes ≤ 65 → (j : ℕ) → j < (i + 1) * 11 + 1 → getD (withNode (w .at) (i * 11 + 1) (nodeIn nodes i)) j 0 ≡ getD (corridorWords nodes) j 0
       stored p q j b =
           ⊎-elim
-          (λ (s : i * 9 + 1 ≤ j).
-          let at : i * 9 + 1 + (j - (i * 9 + 1)) ≡ j = omega arith in
-          let r : j - (i * 9 + 1) < 9 = omega arith in
-          let word : 1 + (i * 9 + (j - (i * 9 + 1))) ≡ j = omega arith in
-          ap (λ (k : ℕ). getD (withNode (w .at) (i * 9 + 1) (nodeIn nodes i)) k 0) (sym at)
-          ∙ sets-within (nodeWords (nodeIn nodes i)) (w .at) (i * 9 + 1) (j - (i * 9 + 1)) (omega (arith, nine (nodeIn nodes i))) (omega (arith, nine (nodeIn nodes i), taken-bound (length nodes)))
-          ∙ sym (words-at nodes i (j - (i * 9 + 1)) (omega (arith, taken-bound (length nodes))) r)
+          (λ (s : i * 11 + 1 ≤ j).
+          let at : i * 11 + 1 + (j - (i * 11 + 1)) ≡ j = omega arith in
+          let r : j - (i * 11 + 1) < 11 = omega arith in
+          let word : 1 + (i * 11 + (j - (i * 11 + 1))) ≡ j = omega arith in
+          ap (λ (k : ℕ). getD (withNode (w .at) (i * 11 + 1) (nodeIn nodes i)) k 0) (sym at)
+          ∙ sets-within (nodeWords (nodeIn nodes i)) (w .at) (i * 11 + 1) (j - (i * 11 + 1)) (omega (arith, eleven (nodeIn nodes i))) (omega (arith, eleven (nodeIn nodes i), taken-bound (length nodes)))
+          ∙ sym (words-at nodes i (j - (i * 11 + 1)) (omega (arith, taken-bound (length nodes))) r)
           ∙ ap (λ (k : ℕ). getD (corridorWords nodes) k 0) word)
-          (λ (s : j < i * 9 + 1). sets-before (nodeWords (nodeIn nodes i)) (w .at) (i * 9 + 1) j s ∙ a .front p q j s)
-          (le-or-lt (i * 9 + 1) j)
+          (λ (s : j < i * 11 + 1). sets-before (nodeWords (nodeIn nodes i)) (w .at) (i * 11 + 1) j s ∙ a .front p q j s)
+          (le-or-lt (i * 11 + 1) j)
 
   -- after the last turn
-  pub upto-ended : (i : ℕ) (w : Words) → i ≡ taken (length nodes) → length (w .at) ≡ 586 → Upto i w → (w .length ≤ 586) × (given w ≡ wordsTaken nodes)
+  pub upto-ended : (i : ℕ) (w : Words) → i ≡ taken (length nodes) → length (w .at) ≡ 716 → Upto i w → (w .length ≤ 716) × (given w ≡ wordsTaken nodes)
   upto-ended i w e l a = ⊎-elim (λ n. none (n .0) (n .1)) (λ n. whole (n .0) (n .1 .0) (n .1 .1)) (none-or-all (length nodes))
     where
       Given : Type 0
-      Given = (w .length ≤ 586) × (given w ≡ wordsTaken nodes)
+      Given = (w .length ≤ 716) × (given w ≡ wordsTaken nodes)
 
       none : (length nodes < 2) ⊎ (65 < length nodes) → taken (length nodes) ≡ 0 → Given
       none out t =
@@ -102,7 +102,7 @@ module _ (nodes : List Node) where
 
       whole : 2 ≤ length nodes → length nodes ≤ 65 → taken (length nodes) ≡ length nodes → Given
       whole p q t =
-          let z : w .length ≡ length nodes * 9 + 1 = a .count ∙ ap wordCount t ∙ count-all (length nodes) p q in
+          let z : w .length ≡ length nodes * 11 + 1 = a .count ∙ ap wordCount t ∙ count-all (length nodes) p q in
           let m : length (given w) ≡ w .length = length-take-le (w .length) (w .at) (omega arith) in
           let words : given w ≡ corridorWords nodes = ext-getD 0 (given w) (corridorWords nodes) (m ∙ z ∙ sym (words-length nodes))
           (λ j b. getD-take (w .length) (w .at) j 0 (omega arith) ∙ a .front p q j (omega arith)) in

@@ -23,7 +23,7 @@ pub count-none : (n : ℕ) → n < 2 → wordCount n ≡ 0
 unfolding wordCount
 count-none n h = simp (lt-leb _ _ h)
 
-pub count-all : (n : ℕ) → 2 ≤ n → n ≤ 65 → wordCount n ≡ n * 9 + 1
+pub count-all : (n : ℕ) → 2 ≤ n → n ≤ 65 → wordCount n ≡ n * 11 + 1
 unfolding wordCount
 count-all n h k = simp (le-leb _ _ h, le-leb _ _ k)
 

@@ -114,14 +114,14 @@ WordsOf 𝓤 H A mem run = tripleOf 𝓤 H A words.signature (words.spec 𝓤 H 
 
 module _ {M : Type 1} (𝓤 : URA M) (H : Heap 𝓤) (A : Atoms 𝓤) (ms : List Mutability) (S : RattleType) where
   abbrev pub AtWords : PromiseAt 𝓤 (inF ms) S → Contract 𝓤
-  AtWords P = tripleOf 𝓤 H A (wordsOf ms S .signature) (closing 𝓤 H A (wordsOf ms S) (λ κs a. record { ghost = Unit {0}; requires = λ _. fact 𝓤 (a .0 .length ≤ 586); ensures = λ _ r e. P κs (given (a .0)) (a .1) r (e .1) }))
+  AtWords P = tripleOf 𝓤 H A (wordsOf ms S .signature) (closing 𝓤 H A (wordsOf ms S) (λ κs a. record { ghost = Unit {0}; requires = λ _. fact 𝓤 (a .0 .length ≤ 716); ensures = λ _ r e. P κs (given (a .0)) (a .1) r (e .1) }))
 
   abbrev pub AtNodes : PromiseAt 𝓤 (inCall ms) S → Contract 𝓤
   AtNodes P = tripleOf 𝓤 H A (callOf ms S .signature) (closing 𝓤 H A (callOf ms S) (λ κs a. record { ghost = Unit {0}; requires = λ _. emp 𝓤; ensures = λ _ r e. P κs (corridorWords (now (a .0))) (a .1) r (e .1) }))
 
 -- the words that are given are those of the nodes, or none
 abbrev pub Filled : List Node → Words → Type 0
-Filled nodes w = (w .length ≤ 586) × (given w ≡ wordsTaken nodes)
+Filled nodes w = (w .length ≤ 716) × (given w ≡ wordsTaken nodes)
 
 abbrev pub slice : Ty
 slice = sliceTy (tyRef (named 0) imm (pointee (N.the-row .written)))
@@ -190,7 +190,7 @@ module _ {M : Type 1} {𝓤 : URA M} {H : Heap 𝓤} {A : Atoms 𝓤} (W : Given
 -- ---- the call of f, at the words w with the machine value u, and the return
 module _ {M : Type 1} {𝓤 : URA M} {H : Heap 𝓤} {A : Atoms 𝓤} (W : Given 𝓤 H A) (x : Site 𝓤) (S : RattleType) (Q : List ℕ → S .Denot → SProp 𝓤) where
   abbrev pub Asked : Words → Val → SProp 𝓤
-  Asked w u = sep 𝓤 (sep 𝓤 (x .tokens) (sem 𝓤 H A (fsep (R.the-row .own w (u ∷ [])) (x .own)))) (fact 𝓤 (w .length ≤ 586))
+  Asked w u = sep 𝓤 (sep 𝓤 (x .tokens) (sem 𝓤 H A (fsep (R.the-row .own w (u ∷ [])) (x .own)))) (fact 𝓤 (w .length ≤ 716))
 
   abbrev Back : Words → Val → S .Denot → Item 𝓤
   Back w r y = (raw (x .tokens) ⊛ ‵ (S .own y (r ∷ []))) ⊛ raw (Q (given w) y)
@@ -204,7 +204,7 @@ module _ {M : Type 1} {𝓤 : URA M} {H : Heap 𝓤} {A : Atoms 𝓤} (W : Given
   abbrev pub Ends : Val → SProp 𝓤
   Ends r = H .⇛ (ex 𝓤 (Says r))
 
-  goes-f : (w : Words) (u : Val) → w .length ≤ 586 → Is R.the-row w (u ∷ []) → ent 𝓤 (mean 𝓤 H A (Others x)) (Asked w u)
+  goes-f : (w : Words) (u : Val) → w .length ≤ 716 → Is R.the-row w (u ∷ []) → ent 𝓤 (mean 𝓤 H A (Others x)) (Asked w u)
   goes-f w u few is = qed W (Others x ∷ []) ∵ split ! $ says ! few $ frame ! $ owned ! R.the-row (Is R.the-row) (LL.makes R.the-type R′.the-plain 𝓤 H A) w _ is $ fjoin ! $ done !
 
   -- a promise of the words that are given is one of the words of the nodes

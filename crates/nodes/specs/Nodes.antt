@@ -10,7 +10,7 @@ use Rattle.faults.specs.Lists.{within}
 use Rattle.nodes.specs.declared.Node.{Node}
 use Rattle.nodes.specs.declared.inner.words.Words.{Words}
 
--- a node's words in the order of document 01: identifier, F, V, W, J, C, L, starting n, starting l
+-- a node's words in the order of a corridor of kind 10: identifier, F, V, W, J, C, L, starting n, starting l, dropped capacity, drop density
 unfoldable pub nodeWords : Node → List ℕ
 nodeWords node =
     node .identifier
@@ -22,6 +22,8 @@ nodeWords node =
     ∷ node .«queue_limit»
     ∷ node .«start_vehicles»
     ∷ node .«start_queue»
+    ∷ node .«dropped_capacity»
+    ∷ node .«drop_density»
     ∷ []
 
 -- what stands for a node past the end
@@ -37,21 +39,31 @@ noNode =
       «queue_limit» = 0;
       «start_vehicles» = 0;
       «start_queue» = 0;
+      «dropped_capacity» = 0;
+      «drop_density» = 0;
     }
 
 abbrev pub nodeIn : List Node → ℕ → Node
 nodeIn nodes i = getD nodes i noNode
 
--- N, which is the number of nodes less one, then the nine words of each node; a list with no node says N = 0, which no corridor has
+-- N, which is the number of nodes less one, then the eleven words of each node; a list with no node says N = 0, which no corridor has
 unfoldable pub corridorWords : List Node → List ℕ
-corridorWords nodes = (length nodes - 1) ∷ rowWords 9 (length nodes) (λ i q. getD (nodeWords (nodeIn nodes i)) q 0)
+corridorWords nodes = (length nodes - 1) ∷ rowWords 11 (length nodes) (λ i q. getD (nodeWords (nodeIn nodes i)) q 0)
 
--- the same node in the terms of the model: what the word lists' reader makes of its nine words
+-- the same node in the terms of the model: what the word lists' reader makes of its eleven words
 unfoldable pub nodeOf : Node → Road.Node
 nodeOf node =
     record {
       identifier = node .identifier;
-      link = record { capacity = node .capacity; fullSpeed = node .«full_speed»; waveSpeed = node .«wave_speed»; jam = node .jam };
+      link =
+          record {
+            capacity = node .capacity;
+            fullSpeed = node .«full_speed»;
+            waveSpeed = node .«wave_speed»;
+            jam = node .jam;
+            droppedCapacity = node .«dropped_capacity»;
+            dropDensity = node .«drop_density»;
+          };
       ramp = record { capacity = node .«ramp_capacity»; queueLimit = node .«queue_limit» };
       start = record { vehicles = node .«start_vehicles»; queue = node .«start_queue» };
     }
@@ -64,7 +76,7 @@ taken length = cond (within 2 65 length) length 0
 
 -- how many words they make
 unfoldable pub wordCount : ℕ → ℕ
-wordCount count = cond (within 2 65 count) (count * 9 + 1) 0
+wordCount count = cond (within 2 65 count) (count * 11 + 1) 0
 
 -- the words at the front of the array
 abbrev pub given : Words → List ℕ

@@ -10,7 +10,7 @@ use tables::Answer;
 
 pub mod inner;
 
-// A node of the corridor, its words in the order of document 01.
+// A node of the corridor, its words in the order of kind 10.
 #[repr(C)]
 pub struct Node {
     pub identifier: u32,
@@ -22,6 +22,8 @@ pub struct Node {
     pub queue_limit: u32,
     pub start_vehicles: u32,
     pub start_queue: u32,
+    pub dropped_capacity: u32,
+    pub drop_density: u32,
 }
 
 // The record of a plan.

@@ -16,7 +16,7 @@ use Rattle.tables.proofs.Answers.{orElse-accepts, refusal-unless}
 use Rattle.tables.proofs.Tabulate.{tabulate-at}
 use Rattle.road.specs.Corridor.{Road}
 use Rattle.road.specs.Run.{cost}
-use Rattle.lists.specs.Words.{linksOf, stepsOf, roadOf, recordWidth, traceOf, corridorLength, traceLength, recordLength}
+use Rattle.lists.specs.Words.{linksOf, stepsOf, roadOf, recordWidth, traceOf, traceLength, recordLength}
 use Rattle.faults.specs.Lists.{within}
 use Rattle.lists.proofs.Limits.{sized-iff}
 use Rattle.faults.proofs.Tests.{within-holds}
@@ -27,7 +27,7 @@ use Rattle.block.specs.declared.Kind.{Kind}
 use Rattle.block.specs.declared.Kind.the-variants.{Demands}
 use Rattle.block.specs.Kinds.{Told, listLength, fileKind}
 use Rattle.block.specs.Calls.{toldFits}
-use Rattle.files.specs.Files.{corridorIn, demandsIn, recordIn, readThenCheck}
+use Rattle.files.specs.Files.{corridorCount, corridorIn, demandsIn, recordIn, readThenCheck}
 use Rattle.files.specs.Fits.{FilesFit, Accepts}
 use Rattle.files.proofs.Answers.{accepts}
 use Rattle.files.proofs.Contents.{own-links, own-steps}
@@ -85,10 +85,10 @@ module _ (input : List ℕ) (a : Answer) where
 
 -- ---- once N is good: block is where the demands start, k the word there, and t what the test of both answered
 
-module _ (input : List ℕ) (n : ℕ) (is : n ≡ linksIn input) (block : ℕ) (b : block ≡ blocksFor (corridorLength n)) where
-  start : block ≡ demandsBlock input
+module _ (input : List ℕ) (n : ℕ) (is : n ≡ linksIn input) (block : ℕ) (b : block ≡ blocksFor (corridorCount n input)) where
+  pub start : block ≡ demandsBlock input
   unfolding demandsBlock
-  start = b ∙ ap (λ (x : ℕ). blocksFor (corridorLength x)) is
+  start = b ∙ ap (λ (x : ℕ). blocksFor (corridorCount x input)) is
 
   pub steps-short : (a : Answer) → a ≡ Refused 14 0 0 → length input < block * 512 + 12 → a ≡ stepsLeft input
   steps-short a e h = e ∙ test-fails 13 _ _ (subst (λ (x : ℕ). leb (x * 512 + 12) (length input) ≡ false) start (lt-leb (block * 512 + 12) (length input) h))
@@ -125,22 +125,19 @@ rest-is at input = take-all (length input - at) (drop at input) (simp length-dro
 pub rest-kind : (at : ℕ) (input : List ℕ) (kind : Kind) → kind ≡ fileKind Demands (take (length input - at) (drop at input)) → kind ≡ fileKind Demands (drop at input)
 rest-kind at input kind e = e ∙ ap (fileKind Demands) (rest-is at input)
 
-module _ (input : List ℕ) (n k : ℕ) (links : n ≡ linksIn input) (steps : k ≡ stepsIn input) (kind : Kind) (chosen : kind ≡ demandsKind input) (at : Layout) (laid : Laid kind n k at) where
+module _ (input : List ℕ) (n k : ℕ) (links : n ≡ linksIn input) (steps : k ≡ stepsIn input) (kind : Kind) (chosen : kind ≡ demandsKind input) (block : ℕ) (starts : block ≡ demandsBlock input) (at : Layout) (laid : Laid block kind n k at) where
   demands-at : at .demands ≡ demandsBlock input * 512
-  unfolding demandsBlock
-  demands-at = laid .demands ∙ ap (λ (x : ℕ). blocksFor (corridorLength x) * 512) links
+  demands-at = laid .demands ∙ ap (λ (x : ℕ). x * 512) starts
 
   record-at : at .recorded ≡ recordBlock input * 512
-  unfolding recordBlock demandsBlock
-  record-at = laid .recorded ∙ (λ z. (blocksFor (corridorLength (links z)) + blocksFor (listLength (chosen z) (links z) (steps z))) * 512)
+  unfolding recordBlock
+  record-at = laid .recorded ∙ (λ z. (starts z + blocksFor (listLength (chosen z) (links z) (steps z))) * 512)
 
   end-at : at .end ≡ endBlock input * 512
-  unfolding endBlock recordBlock demandsBlock
+  unfolding endBlock recordBlock
   end-at =
       laid .end
-      ∙ (λ z.
-      (blocksFor (corridorLength (links z)) + blocksFor (listLength (chosen z) (links z) (steps z)) + blocksFor (recordLength recordWidth (links z) (steps z)))
-      * 512)
+      ∙ (λ z. (starts z + blocksFor (listLength (chosen z) (links z) (steps z)) + blocksFor (recordLength recordWidth (links z) (steps z))) * 512)
 
   -- the files as the code lends them are the input's, whatever is asked of them
   parts-are {ℓ} : {X : Type ℓ} (f : ℕ → ℕ → List ℕ → List ℕ → List ℕ → X)
@@ -205,10 +202,9 @@ module _ (input : List ℕ) (kept : Kept input) (n : ℕ) (links : n ≡ linksIn
         stepsHigh = omega arith;
       }
 
-  module _ (block : ℕ) (b : block ≡ blocksFor (corridorLength n)) where
+  module _ (block : ℕ) (b : block ≡ blocksFor (corridorCount n input)) where
     pub kept-block : block * 512 + 12 ≤ length input
-    unfolding demandsBlock
-    kept-block = omega (arith, kept .holds)
+    kept-block = omega (arith, kept .holds, start input n links block b)
 
     module _ (k : ℕ) (word : k ≡ wordIn input block 2) where
       steps : k ≡ stepsIn input
@@ -217,28 +213,28 @@ module _ (input : List ℕ) (kept : Kept input) (n : ℕ) (links : n ≡ linksIn
       pub kept-steps : Told n k
       kept-steps = subst₂ Told (sym links) (sym steps) (kept .told)
 
-      pub kept-laid : (kind : Kind) → kind ≡ fileKind Demands (drop (block * 512) input) → (at : Layout) → Laid kind n k at
-          → Laid (demandsKind input) (linksIn input) (stepsIn input) at
-      kept-laid kind e at laid = coe 0 1 (z. Laid (kind-is input n links block b kind e z) (links z) (steps z) at) laid
+      pub kept-laid : (kind : Kind) → kind ≡ fileKind Demands (drop (block * 512) input) → (at : Layout) → Laid block kind n k at
+          → Laid (demandsBlock input) (demandsKind input) (linksIn input) (stepsIn input) at
+      kept-laid kind e at laid = coe 0 1 (z. Laid (start input n links block b z) (kind-is input n links block b kind e z) (links z) (steps z) at) laid
 
 -- ---- its files, as the code lends them: what holds of the one holds of the other
 
-module _ (input : List ℕ) (kept : Kept input) (at : Layout) (laid : Laid (demandsKind input) (linksIn input) (stepsIn input) at) where
+module _ (input : List ℕ) (kept : Kept input) (at : Layout) (laid : Laid (demandsBlock input) (demandsKind input) (linksIn input) (stepsIn input) at) where
   pub in-order : (at .demands ≤ at .recorded) × (at .recorded ≤ length input)
-  unfolding endBlock recordBlock demandsBlock
+  unfolding endBlock recordBlock
   in-order = (omega (arith, laid .demands, laid .recorded), omega (arith, laid .recorded, kept .whole))
 
-  laid-again : Laid (demandsKind input) (at .links) (at .steps) at
-  laid-again = subst₂ (λ (n k : ℕ). Laid (demandsKind input) n k at) (sym (laid .links)) (sym (laid .steps)) laid
+  laid-again : Laid (demandsBlock input) (demandsKind input) (at .links) (at .steps) at
+  laid-again = subst₂ (λ (n k : ℕ). Laid (demandsBlock input) (demandsKind input) n k at) (sym (laid .links)) (sym (laid .steps)) laid
 
   module _ (P : ℕ → ℕ → List ℕ → List ℕ → List ℕ → Type 0) where
     pub lent : P (linksIn input) (stepsIn input) (corridorFile input) (demandsFile input) (recordFile input)
         → P (at .links) (at .steps) (take (at .demands) input) (take (at .recorded - at .demands) (drop (at .demands) input)) (take (length input - at .recorded) (drop (at .recorded) input))
-    lent h = coe 1 0 (z. parts-are input (at .links) (at .steps) (laid .links) (laid .steps) (demandsKind input) refl at laid-again P z) h
+    lent h = coe 1 0 (z. parts-are input (at .links) (at .steps) (laid .links) (laid .steps) (demandsKind input) refl (demandsBlock input) refl at laid-again P z) h
 
     pub lent-back : P (at .links) (at .steps) (take (at .demands) input) (take (at .recorded - at .demands) (drop (at .demands) input)) (take (length input - at .recorded) (drop (at .recorded) input))
         → P (linksIn input) (stepsIn input) (corridorFile input) (demandsFile input) (recordFile input)
-    lent-back h = coe 0 1 (z. parts-are input (at .links) (at .steps) (laid .links) (laid .steps) (demandsKind input) refl at laid-again P z) h
+    lent-back h = coe 0 1 (z. parts-are input (at .links) (at .steps) (laid .links) (laid .steps) (demandsKind input) refl (demandsBlock input) refl at laid-again P z) h
 
 -- ---- the cost that an accepted record states
 

@@ -21,7 +21,7 @@ use Rattle.settings.specs.declared.Setting.the-variants.{Full, Held}
 use Rattle.lists.specs.Words.{nodeAt, roadOf, recordWidth, traceOf}
 use Rattle.convert.specs.Convert.{settingAt}
 use Rattle.printed.specs.declared.inner.input.Layout.{Layout}
-use Rattle.printed.specs.Input.{linksIn, stepsIn, demandsKind, corridorFile, demandsFile, recordFile}
+use Rattle.printed.specs.Input.{linksIn, stepsIn, demandsBlock, demandsKind, corridorFile, demandsFile, recordFile}
 use Rattle.printed.specs.Text.{decimalIn, decimal, spaced, planWord, letter, inputRoad, inputTrace, headLine, settingLine, filesLine, planLine}
 use Rattle.printed.specs.Fits.{Laid, statedCost, Put}
 use Rattle.printed.proofs.Input.{Kept, lent-back, cost-stated}
@@ -170,7 +170,7 @@ LineOf text k i n s corridor demands recorded = text ≡ filesLine n s corridor 
 
 -- ---- the lines of an accepted input: text is what the code put out of the files as it lends them
 
-module _ (input : List ℕ) (kept : Kept input) (at : Layout) (laid : Laid (demandsKind input) (linksIn input) (stepsIn input) at) (text : List ℕ) where
+module _ (input : List ℕ) (kept : Kept input) (at : Layout) (laid : Laid (demandsBlock input) (demandsKind input) (linksIn input) (stepsIn input) at) (text : List ℕ) where
   pub head-told : (total : ℕ) → total ≡ statedCost (at .links) (at .steps) (take (length input - at .recorded) (drop (at .recorded) input))
       → text ≡ planWord ++ (spaced (at .steps) ++ (spaced (at .links + 1) ++ (spaced total ++ (10 ∷ []))))
       → text ≡ headLine input

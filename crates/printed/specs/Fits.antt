@@ -7,7 +7,7 @@ use lib.Dec.{leb, eqb}
 use lib.ListN.{length, take}
 use Rattle.tables.specs.declared.Answer.{Answer}
 use Rattle.tables.specs.Answer.{orElse, sized}
-use Rattle.lists.specs.Words.{recordWidth, corridorLength, traceLength, recordLength}
+use Rattle.lists.specs.Words.{recordWidth, traceLength, recordLength}
 use Rattle.faults.specs.Lists.{within}
 use Rattle.payload.specs.File.{blocksFor, payloadWord}
 use Rattle.payload.specs.Reading.{tested}
@@ -31,14 +31,14 @@ stepsLeft input =
     orElse (tested (leb (demandsBlock input * 512 + 12) (length input)) 14 0)
     (orElse (sized (within 1 1440 (stepsIn input))) (filesLeft input))
 
--- ---- where the files of N links and K steps stand, with demands of this kind
+-- ---- where the files of N links and K steps stand, with demands of this kind that start with this block
 
-pub record Laid (kind : Kind) (n k : ℕ) (layout : Layout) : Type 0 where
+pub record Laid (block : ℕ) (kind : Kind) (n k : ℕ) (layout : Layout) : Type 0 where
   pub links : layout .links ≡ n
   pub steps : layout .steps ≡ k
-  pub demands : layout .demands ≡ blocksFor (corridorLength n) * 512
-  pub recorded : layout .recorded ≡ (blocksFor (corridorLength n) + blocksFor (listLength kind n k)) * 512
-  pub end : layout .end ≡ (blocksFor (corridorLength n) + blocksFor (listLength kind n k) + blocksFor (recordLength recordWidth n k)) * 512
+  pub demands : layout .demands ≡ block * 512
+  pub recorded : layout .recorded ≡ (block + blocksFor (listLength kind n k)) * 512
+  pub end : layout .end ≡ (block + blocksFor (listLength kind n k) + blocksFor (recordLength recordWidth n k)) * 512
 
 -- ---- the cost that a record's file states, in the two words after those of all states
 

@@ -1,27 +1,27 @@
--- The program's input: a corridor's, the demands' and a record's file, one after another. N, K and the demands' kind are taken
--- from the files themselves.
+-- The program's input: a corridor's, the demands' and a record's file, one after another. N, K and the kinds of corridor and demands
+-- are taken from the files themselves.
 use Prim.Native.Nat.{ℕ, _+_, _-_, _*_}
 use mathlib.Core.List.{List}
 use lib.Dec.{leb, eqb}
 use lib.ListN.{length, take, drop}
 use Rattle.tables.specs.declared.Answer.{Answer}
 use Rattle.tables.specs.Answer.{orElse, sized}
-use Rattle.lists.specs.Words.{recordWidth, corridorLength, recordLength}
+use Rattle.lists.specs.Words.{recordWidth, recordLength}
 use Rattle.faults.specs.Lists.{within}
 use Rattle.payload.specs.File.{blocksFor, wordIn}
 use Rattle.payload.specs.Reading.{tested}
 use Rattle.block.specs.declared.Kind.{Kind}
 use Rattle.block.specs.declared.Kind.the-variants.{Demands}
 use Rattle.block.specs.Kinds.{listLength, fileKind}
-use Rattle.files.specs.Files.{readThenCheck}
+use Rattle.files.specs.Files.{corridorCount, readThenCheck}
 
 -- N: word 2 of the corridor's first block
 unfoldable pub linksIn : List ℕ → ℕ
 linksIn input = wordIn input 0 2
 
--- the block with which the demands start
+-- the block with which the demands start: word 0 of the corridor's first block, with which the input starts, chooses the corridor's kind
 unfoldable pub demandsBlock : List ℕ → ℕ
-demandsBlock input = blocksFor (corridorLength (linksIn input))
+demandsBlock input = blocksFor (corridorCount (linksIn input) input)
 
 -- K: word 2 of the demands' first block
 unfoldable pub stepsIn : List ℕ → ℕ

@@ -2,9 +2,7 @@
 ghost use mathlib.Core.Path.{_≡_};
 ghost use mathlib.Core.Bool.{cond};
 ghost use Prim.Native.Nat.{_*_, _≤_};
-ghost use lib.Dec.{eqb};
-ghost use Rattle.block.specs.declared.Kind.the-variants.{Demands, DemandsDownstream};
-ghost use Rattle.block.specs.Kinds.{Told, kindNumber, listLength, ownAgrees, kindWord, fileKind, listKind};
+ghost use Rattle.block.specs.Kinds.{Told, kindNumber, listLength, ownAgrees, later, kindWord, saysLater, fileKind, listKind};
 use crate::Kind;
 use lists::inner::words;
 use payload::inner::words::word_at;
@@ -15,6 +13,7 @@ pub fn number_of(kind: Kind) -> u32
 {
     match kind {
         Kind::Corridor => 1,
+        Kind::CorridorDrop => 10,
         Kind::Demands => 2,
         Kind::DemandsDownstream => 5,
         Kind::Record => 3,
@@ -39,6 +38,7 @@ pub fn length_of(kind: Kind, n: u32, k: u32) -> usize
     let steps = k as usize;
     match kind {
         Kind::Corridor => 1 + nodes * 9,
+        Kind::CorridorDrop => 1 + nodes * 11,
         Kind::Demands => 1 + row_words(steps, nodes, 2),
         Kind::DemandsDownstream => 1 + row_words(steps, nodes, 2) + steps,
         Kind::Record => row_words(steps + 1, nodes, words::RECORD_WIDTH) + 2,
@@ -52,6 +52,7 @@ pub fn own_agrees(kind: Kind, n: u32, k: u32, word: u32) -> bool
 {
     match kind {
         Kind::Corridor => word == n,
+        Kind::CorridorDrop => word == n,
         Kind::Demands => word == k,
         Kind::DemandsDownstream => word == k,
         Kind::Record => true,
@@ -69,34 +70,42 @@ fn kind_word(file: &[u8]) -> u32
     0
 }
 
-// Whether a file of demands has the flow that may leave link N.
-pub fn has_downstream(file: &[u8]) -> bool
-    ensures { λ r. ⌜ r ≡ eqb (kindWord (now (file .entry))) (kindNumber DemandsDownstream) ⌝ }
+// The later kind that also fits the place of a kind, and the kind itself where none does.
+fn later(kind: Kind) -> Kind
+    ensures { λ r. ⌜ r ≡ later kind ⌝ }
 {
-    kind_word(file) == number_of(Kind::DemandsDownstream)
+    match kind {
+        Kind::Corridor => Kind::CorridorDrop,
+        Kind::CorridorDrop => Kind::CorridorDrop,
+        Kind::Demands => Kind::DemandsDownstream,
+        Kind::DemandsDownstream => Kind::DemandsDownstream,
+        Kind::Record => Kind::Record,
+        Kind::Plan => Kind::Plan,
+    }
 }
 
-// The kind of demands, by whether they have the flow that may leave link N.
-fn demands_kind(downstream: bool) -> Kind
-    ensures { λ r. ⌜ r ≡ cond downstream DemandsDownstream Demands ⌝ }
+// Whether a file says that it is of the later kind of its place.
+pub fn says_later(kind: Kind, file: &[u8]) -> bool
+    ensures { λ r. ⌜ r ≡ saysLater kind (now (file .entry)) ⌝ }
 {
-    if downstream {
-        return Kind::DemandsDownstream;
+    kind_word(file) == number_of(later(kind))
+}
+
+// The later kind of a place where it is chosen, else the oldest.
+fn choose(chosen: bool, kind: Kind) -> Kind
+    ensures { λ r. ⌜ r ≡ cond chosen (later kind) kind ⌝ }
+{
+    if chosen {
+        return later(kind);
     }
-    Kind::Demands
+    kind
 }
 
 // The kind that a file is read as, where `kind` is the oldest of its place.
 pub fn file_kind(kind: Kind, file: &[u8]) -> Kind
     ensures { λ r. ⌜ r ≡ fileKind kind (now (file .entry)) ⌝ }
 {
-    match kind {
-        Kind::Corridor => Kind::Corridor,
-        Kind::Demands => demands_kind(has_downstream(file)),
-        Kind::DemandsDownstream => Kind::DemandsDownstream,
-        Kind::Record => Kind::Record,
-        Kind::Plan => Kind::Plan,
-    }
+    choose(says_later(kind, file), kind)
 }
 
 // The kind of a list of `count` words, where `kind` is the oldest of its place.
@@ -104,11 +113,5 @@ pub fn list_kind(kind: Kind, n: u32, k: u32, count: usize) -> Kind
     requires { ⌜ Told n k ⌝ }
     ensures { λ r. ⌜ r ≡ listKind kind n k count ⌝ }
 {
-    match kind {
-        Kind::Corridor => Kind::Corridor,
-        Kind::Demands => demands_kind(count == length_of(Kind::DemandsDownstream, n, k)),
-        Kind::DemandsDownstream => Kind::DemandsDownstream,
-        Kind::Record => Kind::Record,
-        Kind::Plan => Kind::Plan,
-    }
+    choose(count == length_of(later(kind), n, k), kind)
 }

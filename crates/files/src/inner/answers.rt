@@ -4,13 +4,14 @@ ghost use mathlib.Core.Bool.{_&&_};
 ghost use Prim.Native.Nat.{_*_};
 ghost use lib.Dec.{eqb};
 ghost use lib.ListN.{length};
-ghost use Rattle.lists.specs.Words.{planLength, corridorLength};
+ghost use Rattle.lists.specs.Words.{planLength};
 ghost use Rattle.payload.specs.File.{blocksFor};
 ghost use Rattle.block.specs.Kinds.{Told};
 ghost use Rattle.block.specs.Calls.{toldFits};
-ghost use Rattle.files.specs.Files.{filesAnswer, readThenCheck};
+ghost use Rattle.files.specs.Files.{corridorCount, filesAnswer, readThenCheck};
 ghost use Rattle.files.specs.Fits.{FilesFit, wordsAnswer};
 use crate::inner::scans;
+use crate::inner::unpacked;
 use block::Kind;
 use block::inner::calls;
 use block::inner::kinds;
@@ -35,7 +36,8 @@ fn files_answer(n: u32, k: u32, corridor: &[u8], demands: &[u8], recorded: &[u8]
     requires { ⌜ Told n k ⌝ }
     ensures { λ r. ⌜ r ≡ filesAnswer n k (now (corridor .entry)) (now (demands .entry)) (now (recorded .entry)) ⌝ }
 {
-    let first = calls::file_answer(Kind::Corridor, n, k, corridor);
+    let chosen = kinds::file_kind(Kind::Corridor, corridor);
+    let first = calls::file_answer(chosen, n, k, corridor);
     if is_refused(first) {
         return first;
     }
@@ -57,7 +59,7 @@ fn contents(
     recorded: &[u8],
 ) -> Answer
     requires { ⌜ FilesFit links steps (now corridor) (now demands) (now recorded) ⌝ }
-    requires { ⌜ length (now list) ≡ corridorLength links ⌝ }
+    requires { ⌜ length (now list) ≡ corridorCount links (now corridor) ⌝ }
     ensures { λ r. ⌜ r ≡ wordsAnswer links steps (now (corridor .entry)) (now (demands .entry)) (now (recorded .entry)) ⌝ }
 {
     place::unpack(corridor, 0, list);
@@ -78,8 +80,8 @@ pub fn read_then_check(n: u32, k: u32, corridor: &[u8], demands: &[u8], recorded
         return answer;
     }
     let links = n as usize;
-    let count = 1 + (links + 1) * 9;
-    let mut room = [0u32; 586];
+    let count = unpacked::corridor_count(links, corridor);
+    let mut room = [0u32; 716];
     let list = &mut room[..count];
     contents(links, k as usize, corridor, list, demands, recorded)
 }

@@ -2,11 +2,11 @@
 ghost use mathlib.Core.Path.{_≡_};
 ghost use Prim.Native.Nat.{_+_, _*_, _<_};
 ghost use lib.ListN.{length};
-ghost use Rattle.lists.specs.Words.{recordWidth, planLength, corridorLength};
+ghost use Rattle.lists.specs.Words.{recordWidth, planLength};
 ghost use Rattle.convert.specs.Convert.{converted};
 ghost use Rattle.payload.specs.File.{payloadOf, putPayload};
 ghost use Rattle.payload.specs.Word.{Words};
-ghost use Rattle.files.specs.Files.{demandsIn, recordIn, planFile};
+ghost use Rattle.files.specs.Files.{corridorCount, demandsIn, recordIn, planFile};
 ghost use Rattle.files.specs.Fits.{Holds, FilesFit, Accepts, FilesKept, planRowIn};
 use crate::inner::unpacked;
 use lists::inner::scans;
@@ -75,7 +75,7 @@ fn fill_plan(
 )
     requires { ⌜ FilesFit links steps (now corridor) (now demands) (now recorded) ⌝ }
     requires { ⌜ Accepts links steps (now corridor) (now demands) (now recorded) ⌝ }
-    requires { ⌜ (length (now list) ≡ corridorLength links) × Holds (planLength links steps) (now plan) ⌝ }
+    requires { ⌜ (length (now list) ≡ corridorCount links (now corridor)) × Holds (planLength links steps) (now plan) ⌝ }
     ensures { λ _. ⌜ now (plan .exit) ≡ planFile links steps (now (corridor .entry)) (now (demands .entry)) (now (recorded .entry)) ⌝ }
 {
     place::unpack(corridor, 0, list);
@@ -97,8 +97,8 @@ pub fn write_plan(
     requires { ⌜ Holds (planLength links steps) (now plan) ⌝ }
     ensures { λ _. ⌜ now (plan .exit) ≡ planFile links steps (now (corridor .entry)) (now (demands .entry)) (now (recorded .entry)) ⌝ }
 {
-    let count = 1 + (links + 1) * 9;
-    let mut room = [0u32; 586];
+    let count = unpacked::corridor_count(links, corridor);
+    let mut room = [0u32; 716];
     let list = &mut room[..count];
     fill_plan(links, steps, corridor, list, demands, recorded, plan);
 }

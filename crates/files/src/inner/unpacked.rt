@@ -1,15 +1,27 @@
-// The rows of one step, unpacked out of the files into short lists.
+// How many words a corridor has, and the rows of one step, unpacked out of the files into short lists.
 ghost use mathlib.Core.Path.{_≡_};
 ghost use Prim.Native.Nat.{suc, _+_, _*_, _≤_, _<_};
 ghost use lib.ListN.{length};
 ghost use Rattle.lists.specs.Words.{recordWidth, recordLength};
-ghost use Rattle.files.specs.Files.{demandsCount};
+ghost use Rattle.files.specs.Files.{corridorCount, demandsCount};
 ghost use Rattle.files.specs.Fits.{Holds, demandRowIn, downstreamIn, stateRowIn};
+use block::Kind;
 use block::inner::kinds;
 use lists::inner::scans;
 use lists::inner::words;
 use payload::inner::place;
 use road::Units;
+
+// How many words the corridor in a file has: no more than a room of 716 holds.
+pub fn corridor_count(links: usize, corridor: &[u8]) -> usize
+    requires { ⌜ links ≤ 64 ⌝ }
+    ensures { λ r. ⌜ (r ≡ corridorCount links (now (corridor .entry))) × (r ≤ 716) ⌝ }
+{
+    if kinds::says_later(Kind::Corridor, corridor) {
+        return 1 + (links + 1) * 11;
+    }
+    1 + (links + 1) * 9
+}
 
 // The demands of step k.
 pub fn demand_row(demands: &[u8], links: usize, steps: usize, k: usize, row: &mut [u32])
@@ -26,7 +38,7 @@ pub fn downstream(demands: &[u8], links: usize, steps: usize, k: usize) -> Units
     requires { ⌜ (links ≤ 64) × (steps ≤ 1440) × (k < steps) × Holds (demandsCount links steps (now demands)) (now demands) ⌝ }
     ensures { λ r. ⌜ r .0 ≡ downstreamIn links steps (now (demands .entry)) k ⌝ }
 {
-    if kinds::has_downstream(demands) {
+    if kinds::says_later(Kind::Demands, demands) {
         let rows = scans::table_length(steps, (links + 1) * 2);
         return Units(place::word_of(demands, 1 + rows + k));
     }

@@ -11,7 +11,7 @@ use nodes::inner::calls;
 use nodes::inner::words::Words;
 
 pub fn simulate_number(words: Words, demands: &[u32], plan: &[u32], record: &mut [u32]) -> u32
-    requires { ⌜ words .length ≤ 586 ⌝ }
+    requires { ⌜ words .length ≤ 716 ⌝ }
     ensures answered { λ r. ⌜ r ≡ hostNumber (simulateAnswer (given words) (now (demands .entry)) (now (plan .entry)) (length (now («record» .entry)))) ⌝ }
     ensures written { λ _. ⌜ now («record» .exit) ≡ recordLeft (given words) (now (demands .entry)) (now (plan .entry)) (now («record» .entry)) ⌝ }
 {
@@ -20,7 +20,7 @@ pub fn simulate_number(words: Words, demands: &[u32], plan: &[u32], record: &mut
 }
 
 pub fn check_number(words: Words, demands: &[u32], record: &[u32]) -> u32
-    requires { ⌜ words .length ≤ 586 ⌝ }
+    requires { ⌜ words .length ≤ 716 ⌝ }
     ensures { λ r. ⌜ r ≡ hostNumber (checkAnswer (given words) (now (demands .entry)) (now («record» .entry))) ⌝ }
 {
     let answer = calls::check_words(words, demands, record);
@@ -28,7 +28,7 @@ pub fn check_number(words: Words, demands: &[u32], record: &[u32]) -> u32
 }
 
 pub fn convert_number(words: Words, demands: &[u32], record: &[u32], plan: &mut [u32]) -> u32
-    requires { ⌜ words .length ≤ 586 ⌝ }
+    requires { ⌜ words .length ≤ 716 ⌝ }
     ensures answered { λ r. ⌜ r ≡ hostNumber (convertAnswer (given words) (now (demands .entry)) (now («record» .entry)) (length (now (plan .entry)))) ⌝ }
     ensures written { λ _. ⌜ now (plan .exit) ≡ planLeft (given words) (now (demands .entry)) (now («record» .entry)) (now (plan .entry)) ⌝ }
 {
@@ -43,7 +43,7 @@ pub fn normal_number(
     work: &mut [u32],
     normal: &mut [u32],
 ) -> u32
-    requires { ⌜ words .length ≤ 586 ⌝ }
+    requires { ⌜ words .length ≤ 716 ⌝ }
     ensures answered { λ r. ⌜ r ≡ hostNumber (normalAnswer (given words) (now (demands .entry)) (now (plan .entry)) (length (now (work .entry))) (length (now (normal .entry)))) ⌝ }
     ensures worked { λ _. ⌜ now (work .exit) ≡ workLeft (given words) (now (demands .entry)) (now (plan .entry)) (now (work .entry)) (length (now (normal .entry))) ⌝ }
     ensures written { λ _. ⌜ now (normal .exit) ≡ normalLeft (given words) (now (demands .entry)) (now (plan .entry)) (length (now (work .entry))) (now (normal .entry)) ⌝ }

@@ -9,7 +9,7 @@ use crate::inner::words::Words;
 use tables::Answer;
 
 pub fn simulate_words(words: Words, demands: &[u32], plan: &[u32], record: &mut [u32]) -> Answer
-    requires { ⌜ words .length ≤ 586 ⌝ }
+    requires { ⌜ words .length ≤ 716 ⌝ }
     ensures answered { λ r. ⌜ r ≡ simulateAnswer (given words) (now (demands .entry)) (now (plan .entry)) (length (now («record» .entry))) ⌝ }
     ensures written { λ r. ⌜ now («record» .exit) ≡ recordLeft (given words) (now (demands .entry)) (now (plan .entry)) (now («record» .entry)) ⌝ }
 {
@@ -19,7 +19,7 @@ pub fn simulate_words(words: Words, demands: &[u32], plan: &[u32], record: &mut 
 }
 
 pub fn check_words(words: Words, demands: &[u32], record: &[u32]) -> Answer
-    requires { ⌜ words .length ≤ 586 ⌝ }
+    requires { ⌜ words .length ≤ 716 ⌝ }
     ensures { λ r. ⌜ r ≡ checkAnswer (given words) (now (demands .entry)) (now («record» .entry)) ⌝ }
 {
     let length = words.length;
@@ -28,7 +28,7 @@ pub fn check_words(words: Words, demands: &[u32], record: &[u32]) -> Answer
 }
 
 pub fn convert_words(words: Words, demands: &[u32], record: &[u32], plan: &mut [u32]) -> Answer
-    requires { ⌜ words .length ≤ 586 ⌝ }
+    requires { ⌜ words .length ≤ 716 ⌝ }
     ensures answered { λ r. ⌜ r ≡ convertAnswer (given words) (now (demands .entry)) (now («record» .entry)) (length (now (plan .entry))) ⌝ }
     ensures written { λ r. ⌜ now (plan .exit) ≡ planLeft (given words) (now (demands .entry)) (now («record» .entry)) (now (plan .entry)) ⌝ }
 {
@@ -44,7 +44,7 @@ pub fn normal_form_words(
     work: &mut [u32],
     normal: &mut [u32],
 ) -> Answer
-    requires { ⌜ words .length ≤ 586 ⌝ }
+    requires { ⌜ words .length ≤ 716 ⌝ }
     ensures answered { λ r. ⌜ r ≡ normalAnswer (given words) (now (demands .entry)) (now (plan .entry)) (length (now (work .entry))) (length (now (normal .entry))) ⌝ }
     ensures worked { λ r. ⌜ now (work .exit) ≡ workLeft (given words) (now (demands .entry)) (now (plan .entry)) (now (work .entry)) (length (now (normal .entry))) ⌝ }
     ensures written { λ r. ⌜ now (normal .exit) ≡ normalLeft (given words) (now (demands .entry)) (now (plan .entry)) (length (now (work .entry))) (now (normal .entry)) ⌝ }

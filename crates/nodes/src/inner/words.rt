@@ -8,7 +8,7 @@ use crate::Node;
 // The first `length` of the words are the corridor's: as many as 65 nodes make, or none.
 pub struct Words {
     pub length: usize,
-    pub at: [u32; 586],
+    pub at: [u32; 716],
 }
 
 // How many of the nodes are copied out: all, or none where no corridor has as many.
@@ -29,13 +29,13 @@ pub fn begin(count: usize) -> Words
     requires { ⌜ count ≤ 65 ⌝ }
     ensures { λ r. ⌜ (r .length ≡ wordCount count) × (getD (r .at) 0 0 ≡ count - 1) ⌝ }
 {
-    let mut at = [0u32; 586];
+    let mut at = [0u32; 716];
     if count < 2 {
         return Words { length: 0, at };
     }
     at[0] = (count - 1) as u32;
     Words {
-        length: count * 9 + 1,
+        length: count * 11 + 1,
         at,
     }
 }
@@ -43,9 +43,9 @@ pub fn begin(count: usize) -> Words
 // The words with those of node i.
 pub fn with_node(words: Words, i: usize, node: Node) -> Words
     requires { ⌜ i < 65 ⌝ }
-    ensures { λ r. ⌜ (r .length ≡ words .length) × (r .at ≡ withNode (words .at) (i * 9 + 1) node) ⌝ }
+    ensures { λ r. ⌜ (r .length ≡ words .length) × (r .at ≡ withNode (words .at) (i * 11 + 1) node) ⌝ }
 {
-    let k = i * 9 + 1;
+    let k = i * 11 + 1;
     let mut at = words.at;
     at[k] = node.identifier;
     at[k + 1] = node.capacity;
@@ -56,6 +56,8 @@ pub fn with_node(words: Words, i: usize, node: Node) -> Words
     at[k + 6] = node.queue_limit;
     at[k + 7] = node.start_vehicles;
     at[k + 8] = node.start_queue;
+    at[k + 9] = node.dropped_capacity;
+    at[k + 10] = node.drop_density;
     Words {
         length: words.length,
         at,
@@ -72,7 +74,7 @@ pub fn node_at(nodes: &[Node], i: usize) -> Node
 
 // The words of all nodes, or none where no corridor has as many.
 pub fn words_of_nodes(nodes: &[Node]) -> Words
-    ensures { λ r. ⌜ (r .length ≤ 586) × (given r ≡ wordsTaken (now (nodes .entry))) ⌝ }
+    ensures { λ r. ⌜ (r .length ≤ 716) × (given r ≡ wordsTaken (now (nodes .entry))) ⌝ }
 {
     let count = taken_of(nodes.len());
     let mut words = begin(count);

@@ -1,4 +1,4 @@
-// The answer to an input: N, K and the demands' kind are taken from the files themselves, then the files are read in turn and the record is checked.
+// The answer to an input: N, K and the kinds of corridor and demands are taken from the files themselves, then the files are read in turn and the record is checked.
 ghost use mathlib.Core.Path.{_≡_};
 ghost use Prim.Native.Nat.{_*_, _≤_};
 ghost use lib.ListN.{length, drop};
@@ -6,12 +6,14 @@ ghost use Rattle.tables.specs.declared.Answer.the-variants.{Accepted};
 ghost use Rattle.payload.specs.File.{blocksFor};
 ghost use Rattle.block.specs.declared.Kind.the-variants.{Demands};
 ghost use Rattle.block.specs.Kinds.{Told, listLength, fileKind};
-ghost use Rattle.printed.specs.Input.{linksIn, stepsIn, demandsKind, inputAnswer};
+ghost use Rattle.files.specs.Files.{corridorCount};
+ghost use Rattle.printed.specs.Input.{linksIn, stepsIn, demandsBlock, demandsKind, inputAnswer};
 ghost use Rattle.printed.specs.Fits.{filesLeft, stepsLeft, Laid};
 use block::Kind;
 use block::inner::calls;
 use block::inner::kinds;
 use files::inner::answers;
+use files::inner::unpacked;
 use payload::inner::reading;
 use payload::inner::words;
 use tables::Answer;
@@ -34,6 +36,14 @@ fn blocks_of(kind: Kind, n: u32, k: u32) -> usize
     reading::blocks_for(kinds::length_of(kind, n, k))
 }
 
+// How many blocks the corridor has with which an input starts.
+fn corridor_blocks(input: &[u8], n: u32) -> usize
+    requires { ⌜ Told n 1 ⌝ }
+    ensures { λ r. ⌜ (r ≡ blocksFor (corridorCount n (now (input .entry)))) × (r ≤ 6) ⌝ }
+{
+    reading::blocks_for(unpacked::corridor_count(n as usize, input))
+}
+
 // The kind of the demands that start with a block of the input.
 fn demands_kind(input: &[u8], block: usize) -> Kind
     requires { ⌜ block * 512 ≤ length (now input) ⌝ }
@@ -43,12 +53,12 @@ fn demands_kind(input: &[u8], block: usize) -> Kind
     kinds::file_kind(Kind::Demands, &input[at..])
 }
 
-// Where the files stand, with demands of a kind.
-fn layout_of(kind: Kind, n: u32, k: u32) -> Layout
-    requires { ⌜ Told n k ⌝ }
-    ensures { λ r. ⌜ Laid kind n k r ⌝ }
+// Where the files stand, with demands of a kind that start with a block.
+fn layout_of(block: usize, kind: Kind, n: u32, k: u32) -> Layout
+    requires { ⌜ Told n k × (block ≤ 6) ⌝ }
+    ensures { λ r. ⌜ Laid block kind n k r ⌝ }
 {
-    let demands = blocks_of(Kind::Corridor, n, k) * 512;
+    let demands = block * 512;
     let recorded = demands + blocks_of(kind, n, k) * 512;
     let end = recorded + blocks_of(Kind::Record, n, k) * 512;
     Layout {
@@ -63,21 +73,22 @@ fn layout_of(kind: Kind, n: u32, k: u32) -> Layout
 // Where the files of an accepted input stand.
 pub fn layout_in(input: &[u8]) -> Layout
     requires { ⌜ inputAnswer (now input) ≡ Accepted ⌝ }
-    ensures { λ r. ⌜ Laid (demandsKind (now (input .entry))) (linksIn (now (input .entry))) (stepsIn (now (input .entry))) r ⌝ }
+    ensures { λ r. ⌜ Laid (demandsBlock (now (input .entry))) (demandsKind (now (input .entry))) (linksIn (now (input .entry))) (stepsIn (now (input .entry))) r ⌝ }
 {
     let n = words::word_at(input, 2);
-    let block = blocks_of(Kind::Corridor, n, 1);
+    let block = corridor_blocks(input, n);
     let steps = words::word_at(input, block * 128 + 2);
-    layout_of(demands_kind(input, block), n, steps)
+    layout_of(block, demands_kind(input, block), n, steps)
 }
 
 // What is left to refuse once N and K are good.
-fn files_left(input: &[u8], kind: Kind, n: u32, k: u32) -> Answer
-    requires { ⌜ Told n k ⌝ }
-    requires { ⌜ (n ≡ linksIn (now input)) × (k ≡ stepsIn (now input)) × (kind ≡ demandsKind (now input)) ⌝ }
+fn files_left(input: &[u8], block: usize, kind: Kind, n: u32, k: u32) -> Answer
+    requires { ⌜ Told n k × (block ≤ 6) ⌝ }
+    requires { ⌜ (n ≡ linksIn (now input)) × (k ≡ stepsIn (now input)) ⌝ }
+    requires { ⌜ (block ≡ demandsBlock (now input)) × (kind ≡ demandsKind (now input)) ⌝ }
     ensures { λ r. ⌜ r ≡ filesLeft (now (input .entry)) ⌝ }
 {
-    let at = layout_of(kind, n, k);
+    let at = layout_of(block, kind, n, k);
     let demands = at.demands;
     let recorded = at.recorded;
     if input.len() == at.end {
@@ -98,13 +109,13 @@ fn steps_left(input: &[u8], n: u32) -> Answer
     requires { ⌜ n ≡ linksIn (now input) ⌝ }
     ensures { λ r. ⌜ r ≡ stepsLeft (now (input .entry)) ⌝ }
 {
-    let block = blocks_of(Kind::Corridor, n, 1);
+    let block = corridor_blocks(input, n);
     if input.len() < block * 512 + 12 {
         return refusal(14, 0, 0);
     }
     let k = words::word_at(input, block * 128 + 2);
     if calls::told_fits(n, k) {
-        return files_left(input, demands_kind(input, block), n, k);
+        return files_left(input, block, demands_kind(input, block), n, k);
     }
     refusal(1, 0, 0)
 }

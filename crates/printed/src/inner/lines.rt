@@ -6,7 +6,7 @@ ghost use lib.ListN.{length, take};
 ghost use Rattle.io.specs.Counts.{Counts};
 ghost use Rattle.tables.specs.declared.Answer.the-variants.{Accepted};
 ghost use Rattle.lists.specs.Words.{nodeAt, roadOf, recordWidth, traceOf, recordLength};
-ghost use Rattle.lists.specs.Fits.{NodeFits};
+ghost use Rattle.lists.specs.Fits.{CorridorFits};
 ghost use Rattle.convert.specs.Convert.{settingAt};
 ghost use Rattle.files.specs.Files.{demandsIn, recordIn};
 ghost use Rattle.files.specs.Fits.{Holds, FilesFit, Accepts, FilesKept};
@@ -89,16 +89,23 @@ fn put_fields(
 }
 
 // The line of node i at a step, with its setting: F where it is full, H where it is held.
-fn node_line(corridor: &[u32], i: usize, step: u64, setting: Setting, out: &mut [u8]) -> usize
-    requires { ⌜ NodeFits (now corridor) i ⌝ }
-    requires { ⌜ length (now out) ≡ 128 ⌝ }
+fn node_line(
+    corridor: &[u32],
+    links: usize,
+    i: usize,
+    step: u64,
+    setting: Setting,
+    out: &mut [u8],
+) -> usize
+    requires { ⌜ CorridorFits (now corridor) links ⌝ }
+    requires { ⌜ (i ≤ links) × (length (now out) ≡ 128) ⌝ }
     ensures { λ r. ⌜ take r (now (out .exit)) ≡ settingLine step (nodeAt (now (corridor .entry)) i .identifier) (nodeAt (now (corridor .entry)) i .link .fullSpeed) setting ⌝ }
     ensures { λ r. ⌜ Counts r (now (out .exit)) ⌝ }
 {
-    let identifier = words::identifier_at(corridor, i);
+    let identifier = words::identifier_at(corridor, links, i);
     match setting {
         Setting::Full(rate) => {
-            let link = words::link_at(corridor, i);
+            let link = words::link_at(corridor, links, i);
             let full = link.full_speed;
             put_fields(step, identifier, rate.0, full.0, 70, out)
         }
@@ -149,12 +156,12 @@ fn files_line(
     ensures { λ r. ⌜ take r (now (out .exit)) ≡ filesLine links steps (now (corridor .entry)) (now (demands .entry)) (now (recorded .entry)) k i ⌝ }
     ensures { λ r. ⌜ Counts r (now (out .exit)) ⌝ }
 {
-    let count = 1 + (links + 1) * 9;
-    let mut room = [0u32; 586];
+    let count = unpacked::corridor_count(links, corridor);
+    let mut room = [0u32; 716];
     let list = &mut room[..count];
     place::unpack(corridor, 0, list);
     let setting = setting_of(list, demands, links, steps, recorded, k, i);
-    node_line(list, i, k as u64, setting, out)
+    node_line(list, links, i, k as u64, setting, out)
 }
 
 // The line of node i at step k of an accepted input.

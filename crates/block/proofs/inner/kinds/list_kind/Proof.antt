@@ -1,32 +1,21 @@
--- By cases of the kind.
+-- By the length of the later kind.
+use Prim.Native.Nat.{ℕ}
+use mathlib.Core.Bool.{Bool, cond}
+use mathlib.Core.Path.{ap, _∙_}
 use borrow.Author.Needs.{needs}
-use Rattle.block.specs.Kinds.{listKind}
+use lib.Dec.{eqb}
+use Rattle.block.specs.declared.Kind.{Kind}
+use Rattle.block.specs.Kinds.{later, listLength, listKind}
 use Rattle.block.proofs.inner.kinds.list_kind.Statement.{statement}
 use Rattle.block.proofs.inner.kinds.list_kind.Tie as tie
 
 returns : tie.Need-returns
 unfolding listKind
-returns c = rw (c .enum-told .given .1)
-
-returns-2 : tie.Need-returns-2
-unfolding listKind
-returns-2 c = rw (c .before .before .enum-told2 .given .1) (cc)
-
-returns-3 : tie.Need-returns-3
-unfolding listKind
-returns-3 c = rw (c .enum-told3 .given .1)
-
-returns-4 : tie.Need-returns-4
-unfolding listKind
-returns-4 c = rw (c .enum-told4 .given .1)
-
-returns-5 : tie.Need-returns-5
-unfolding listKind
-returns-5 c = rw (c .enum-told5 .given .1)
+returns c =
+    let a = c .before .before .before .args in
+    c .choose .ensures
+    ∙ ap (λ (m : ℕ). cond (eqb (a .count) m) (later (a .kind)) (a .kind))
+    (c .before .length-of .ensures .0 ∙ ap (λ (x : Kind). listLength x (a .n) (a .k)) (c .before .before .later .ensures))
 
 pub list-kind-spec : {M : Type 1} → statement M
-list-kind-spec =
-    tie.close
-    (tie.spec
-    (λ c. search needs) (λ c. search needs) (λ c κs. search needs) (λ c κs. search needs) (λ c. search needs)
-    (λ c. search needs) (λ c. search needs) returns returns-2 returns-3 returns-4 returns-5)
+list-kind-spec = tie.close (tie.spec (λ c κs. search needs) (λ c κs. search needs) (λ c κs. search needs) returns)

@@ -24,9 +24,13 @@ returns-5 : tie.Need-returns-5
 unfolding ownAgrees
 returns-5 c = rw (c .enum-told5 .given .1)
 
+returns-6 : tie.Need-returns-6
+unfolding ownAgrees
+returns-6 c = rw (c .enum-told6 .given .1)
+
 pub own-agrees-spec : {M : Type 1} → statement M
 own-agrees-spec =
     tie.close
     (tie.spec
-    (λ c. search needs) (λ c. search needs) (λ c. search needs) (λ c. search needs) (λ c. search needs)
-    returns returns-2 returns-3 returns-4 returns-5)
+    (λ c. search needs) (λ c. search needs) (λ c. search needs) (λ c. search needs) (λ c. search needs) (λ c. search needs)
+    returns returns-2 returns-3 returns-4 returns-5 returns-6)

@@ -11,6 +11,7 @@ files-answer-spec =
     (tie.spec
     (λ c κs. search needs)
     (λ c κs. search needs)
+    (λ c κs. search needs)
     (λ c. search (files-first, told-refused))
     (λ c κs. search needs)
     (λ c κs. search needs)

@@ -9,15 +9,18 @@ use Rattle.files.proofs.inner.answers.read_then_check.Tie as tie
 
 contents-requires : tie.Need-contents-requires
 contents-requires c κs =
-    let k = c .before .before .before .before .before .before .before in
-    let h = told-accepted (c .before .before .before .files-answer .result) _ (c .before .before .is-refused .ensures) (c .before .if1 .left) in
-    (files-fit _ _ _ _ _ _ (k .pre) (c .before .before .before .files-answer .ensures) h, simp length-take (omega (arith, k .pre .linksHigh)))
+    let told = c .before .before in
+    let k = told .before .before .before .before .before .before in
+    let h = told-accepted (told .before .before .files-answer .result) _ (told .before .is-refused .ensures) (told .if1 .left) in
+    let count = c .before .corridor-count .ensures in
+    (files-fit _ _ _ _ _ _ (k .pre) (told .before .before .files-answer .ensures) h, simp length-take (omega (arith, count)))
 
 returns-2 : tie.Need-returns-2
 returns-2 c =
-    let k = c .before .before .before .before .before .before .before .before .before in
-    let h = told-accepted (c .before .before .before .before .before .files-answer .result) _ (c .before .before .before .before .is-refused .ensures) (c .before .before .before .if1 .left) in
-    read-next _ _ _ _ _ _ (c .before .before .before .before .before .files-answer .ensures) h (k .pre) _ (c .before .contents .ensures)
+    let told = c .before .before .before .before in
+    let k = told .before .before .before .before .before .before in
+    let h = told-accepted (told .before .before .files-answer .result) _ (told .before .is-refused .ensures) (told .if1 .left) in
+    read-next _ _ _ _ _ _ (told .before .before .files-answer .ensures) h (k .pre) _ (c .before .contents .ensures)
 
 pub read-then-check-spec : {M : Type 1} → statement M
 read-then-check-spec =
@@ -26,9 +29,7 @@ read-then-check-spec =
     (λ c κs. search needs)
     (λ c κs. search needs)
     (λ c. search (read-stop, told-refused))
-    (λ c. search needs)
-    (λ c. search needs)
-    (λ c. search needs)
+    (λ c κs. search needs)
     (λ c. search needs)
     (λ c. simp length-take (omega arith))
     contents-requires

@@ -10,7 +10,7 @@ word-of-requires : tie.Need-word-of-requires
 word-of-requires c κs =
     let f = c .before .before in
     let k = f .before .before in
-    omega (arith, downstream-ends _ _ (k .args .k) _ _ (f .has-downstream .ensures) (c .before .if1 .taken) _ (c .table-length .ensures), k .pre .2, k .pre .3)
+    omega (arith, downstream-ends _ _ (k .args .k) _ _ (f .says-later .ensures) (c .before .if1 .taken) _ (c .table-length .ensures), k .pre .2, k .pre .3)
 
 pub downstream-spec : {M : Type 1} → statement M
 downstream-spec =

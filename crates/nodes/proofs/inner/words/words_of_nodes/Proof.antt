@@ -198,12 +198,12 @@ module _ {M : Type 1} (𝓤 : URA M) (H : Heap 𝓤) (A : Atoms 𝓤) (W : Given
       few = omega (arith, taken-bound n)
 
   abbrev Put : Words → ℕ → Node → Words → Type 0
-  Put w i d w′ = (w′ .length ≡ w .length) × (w′ .at ≡ withNode (w .at) (i * 9 + 1) d)
+  Put w i d w′ = (w′ .length ≡ w .length) × (w′ .at ≡ withNode (w .at) (i * 11 + 1) d)
 
   with-node-said : (w : Words) (i : ℕ) (d : Node) (w′ : Words) → ent 𝓤 (ensured 𝓤 H A with-node.ended (with-node.clauses 𝓤 H A at-mem run) tt (w, (i, (d, tt))) tt w′) (fact 𝓤 (Put w i d w′))
   with-node-said w i d w′ = exE 𝓤 _ (λ ws. snd∗ 𝓤 (sem 𝓤 H A (lasts with-node.ended tt (w, (i, (d, tt))) ws)) (fact 𝓤 (Put w i d w′)))
 
-  exits : (w : Words) (u : Val) → (w .length ≤ 586) × (given w ≡ wordsTaken ys) → Is R.the-row w (u ∷ []) → ent 𝓤 (⋆ 𝓤 H A (Token ∷ ‵ Own ∷ [])) (Post u)
+  exits : (w : Words) (u : Val) → (w .length ≤ 716) × (given w ≡ wordsTaken ys) → Is R.the-row w (u ∷ []) → ent 𝓤 (⋆ 𝓤 H A (Token ∷ ‵ Own ∷ [])) (Post u)
   exits w u filled is =
       qed W (Token ∷ ‵ Own ∷ []) ∵
       suffices ! _ (ends-at 𝓤 H A f.ended stayed (f.clauses 𝓤 H A at-mem run) W (((κ, tt), (q, tt), tt, (s, tt), (v ∷ [], tt)), tt) u w (tt, tt) (tt, tt)) $ says ! filled $

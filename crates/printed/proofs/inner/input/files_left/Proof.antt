@@ -11,7 +11,7 @@ returns c =
     let i = c .before .before .before .before in
     let l = i .before .before in
     let k = l .before .before in
-    files-read _ _ _ (k .pre .1 .0) (k .pre .1 .1) _ (k .pre .1 .2) _ (l .layout-of .ensures) _ (i .if1 .taken) (c .read-then-check .ensures)
+    files-read _ _ _ (k .pre .1 .0 .0) (k .pre .1 .0 .1) _ (k .pre .1 .1 .1) _ (k .pre .1 .1 .0) _ (l .layout-of .ensures) _ (i .if1 .taken) (c .read-then-check .ensures)
 
 pub files-left-spec : {M : Type 1} → statement M
 files-left-spec =

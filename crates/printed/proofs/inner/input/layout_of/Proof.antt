@@ -9,16 +9,14 @@ use Rattle.printed.proofs.inner.input.layout_of.Tie as tie
 returns : tie.Need-returns
 unfolding listLength
 returns c =
-    let third = c .blocks-of3 .ensures .0 in
-    let second = c .before .blocks-of2 .ensures .0 in
-    let first = c .before .before .blocks-of .ensures .0 in
-    record { links = refl; steps = refl; demands = omega arith; recorded = omega arith; end = omega arith }
+    let second = c .blocks-of2 .ensures .0 in
+    let first = c .before .blocks-of .ensures .0 in
+    record { links = refl; steps = refl; demands = refl; recorded = omega arith; end = omega arith }
 
 pub layout-of-spec : {M : Type 1} → statement M
 layout-of-spec =
     tie.close
     (tie.spec
-    (λ c κs. search needs)
     (λ c. search needs)
     (λ c κs. search needs)
     (λ c. search needs)

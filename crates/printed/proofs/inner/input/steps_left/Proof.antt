@@ -1,35 +1,29 @@
 -- The input's end decides, then K, then the rest.
 use borrow.Author.Needs.{needs}
-use Rattle.block.specs.Kinds.{listLength}
 use Rattle.block.proofs.Calls.{told-is}
-use Rattle.printed.proofs.Input.{steps-short, kind-is, steps-are, steps-bad, steps-good}
+use Rattle.printed.proofs.Input.{start, steps-short, kind-is, steps-are, steps-bad, steps-good}
 use Rattle.printed.proofs.inner.input.steps_left.Statement.{statement}
 use Rattle.printed.proofs.inner.input.steps_left.Tie as tie
 
 files-left-requires : tie.Need-files-left-requires
-unfolding listLength
 files-left-requires c κs =
     let w = c .before .before .before in
     let b = w .before .before in
     let k = b .before .before in (
-      told-is _ _ _ (c .before .before .told-fits .ensures) (c .before .if2 .taken),
+      (told-is _ _ _ (c .before .before .told-fits .ensures) (c .before .if2 .taken), b .corridor-blocks .ensures .1),
       (
-        k .pre .1,
-        steps-are _ _ (k .pre .1) _ (b .blocks-of .ensures .0) _ (w .word-at .ensures),
-        kind-is _ _ (k .pre .1) _ (b .blocks-of .ensures .0) _ (c .demands-kind .ensures),
+        (k .pre .1, steps-are _ _ (k .pre .1) _ (b .corridor-blocks .ensures .0) _ (w .word-at .ensures)),
+        (start _ _ (k .pre .1) _ (b .corridor-blocks .ensures .0), kind-is _ _ (k .pre .1) _ (b .corridor-blocks .ensures .0) _ (c .demands-kind .ensures)),
       ),
     )
 
 returns : tie.Need-returns
-unfolding listLength
 returns c = search steps-short
 
 returns-2 : tie.Need-returns-2
-unfolding listLength
 returns-2 c = search steps-good
 
 returns-3 : tie.Need-returns-3
-unfolding listLength
 returns-3 c = search steps-bad
 
 pub steps-left-spec : {M : Type 1} → statement M
