@@ -5,15 +5,15 @@ use Rattle.tables.specs.Grid.{cell, grid}
 use Rattle.tables.specs.Least.{leastFrom}
 use Rattle.tables.specs.Sum.{sum}
 use Rattle.tables.specs.Tabulate.{tabulate}
-use Rattle.road.specs.Step.{sending, exit, through, offer, receiving, passed, merge, flowsWith, outflow, moved}
+use Rattle.road.specs.Step.{discharge, sending, exit, through, offer, receiving, passed, merge, flowsWith, outflow, moved}
 use Rattle.road.specs.Run.{supply, junction, inflow, next, cost}
 use Rattle.settings.specs.Rate.{fullFlows, gives, rateFor}
 use Rattle.settings.specs.Setting.{heldLimit, settingFor}
 use Rattle.settings.proofs.Cases.{cases as node-cases}
 use Rattle.payload.proofs.Cases.{cases as file-cases}
-use Rattle.lists.specs.Words.{linksOf, nodeAt, stepsOf, roadOf, planOf, planWord, planWords, traceOf}
+use Rattle.lists.specs.Words.{linksOf, byKind, nodeAt, stepsOf, roadOf, planOf, planWord, planWords, traceOf}
 use Rattle.faults.specs.Lists.{linkFault, rampFault, startFault, demandFault}
-use Rattle.lists.specs.Refusals.{demandsSized, sizes, fresh, linkRefusal, rampRefusal, startRefusal, demandRefusal, ranges}
+use Rattle.lists.specs.Refusals.{corridorSized, demandsSized, sizes, fresh, linkRefusal, rampRefusal, startRefusal, demandRefusal, ranges}
 use Rattle.simulate.proofs.Case.{case-1}
 use Rattle.faults.specs.Records.{fixedFault, stepFault, totalFault}
 use Rattle.convert.specs.Refusals.{costFault, judged}
@@ -21,7 +21,7 @@ use Rattle.convert.specs.Convert.{settingAt, planFor, converted, convertAnswer}
 use Rattle.demands.specs.Cases.{Cases}
 
 pub cases : Cases
-unfolding first cell grid leastFrom sum tabulate sending exit through offer receiving passed merge flowsWith outflow moved supply junction inflow next cost fullFlows gives rateFor heldLimit settingFor linksOf nodeAt stepsOf roadOf planOf planWord planWords traceOf demandsSized sizes linkFault fresh rampFault startFault demandFault linkRefusal rampRefusal startRefusal demandRefusal ranges fixedFault stepFault totalFault costFault judged settingAt planFor converted convertAnswer
+unfolding first cell grid leastFrom sum tabulate discharge sending exit through offer receiving passed merge flowsWith outflow moved supply junction inflow next cost fullFlows gives rateFor heldLimit settingFor linksOf byKind nodeAt stepsOf roadOf planOf planWord planWords traceOf corridorSized demandsSized sizes linkFault fresh rampFault startFault demandFault linkRefusal rampRefusal startRefusal demandRefusal ranges fixedFault stepFault totalFault costFault judged settingAt planFor converted convertAnswer
 cases =
     record {
       case-1-sending = node-cases .case-1-sending;

@@ -2,26 +2,21 @@
 use Prim.Native.Nat.{ℕ, suc, _+_, _≤_, _<_}
 use mathlib.Core.Bool.{Bool, true, false, _&&_, _||_}
 use mathlib.Core.List.{List}
-use mathlib.Core.Path.{_≡_, refl, sym, ap, ap₂, _∙_}
+use mathlib.Core.Path.{_≡_, refl, sym, ap, _∙_}
 use native.Mathlib.Omega.{arith}
 use borrow.Author.Tests.{eq-eqb}
 use lib.Dec.{eqb}
 use lib.ListN.{length, getD, replicate, length-append, length-replicate, getD-replicate, List·getD-append, List·getD-eq-default}
 use lib.Seq.{getD-append-add}
-use Rattle.tables.specs.declared.Answer.{Answer}
-use Rattle.tables.specs.Answer.{orElse, sized, left}
 use Rattle.tables.specs.Grid.{place}
 use Rattle.tables.proofs.Grid.{place-fits}
 use Rattle.road.proofs.Roads.{SameRoads}
 use Rattle.faults.specs.Lists.{within}
-use Rattle.lists.specs.Words.{linksOf, stepsOf, corridorLength, demandsLength, downstreamLength, downstreamWord, free, roadOf, planLength, recordLength, recordWidth}
-use Rattle.lists.specs.Refusals.{demandsSized, sizes, ranges, planBounds}
-use Rattle.lists.proofs.Roads.{roads-ranges, roads-bounds, roads-record}
-use Rattle.simulate.specs.Simulate.{simulateSizes, simulateAnswer, simulated, recordLeft}
-use Rattle.convert.specs.Refusals.{judged}
-use Rattle.convert.specs.Convert.{converted, normalForm, checkAnswer, convertAnswer, planLeft, normalRefusal, normalAnswer, workLeft, normalLeft}
-use Rattle.convert.proofs.Roads.{roads-judged, roads-plan}
+use Rattle.lists.specs.Words.{linksOf, stepsOf, demandsLength, downstreamLength, downstreamWord, free, roadOf}
+use Rattle.lists.specs.Refusals.{corridorSized, demandsSized, sizes}
+use Rattle.convert.specs.Convert.{converted, checkAnswer}
 use Rattle.demands.specs.Completed.{completed, SameOnLists}
+use Rattle.demands.proofs.Alike.{alike-lists, alike-checks, alike-plans}
 
 module _ (links : ℕ) (demands : List ℕ) (fits : length demands ≡ demandsLength links (stepsOf demands)) where
   abbrev other : List ℕ
@@ -94,77 +89,13 @@ module _ (corridor demands : List ℕ) (fits : length demands ≡ demandsLength 
   fit =
       λ z. within 1 64 (linksOf corridor)
       && (within 1 1440 (steps z)
-      && (eqb (length corridor) (corridorLength (linksOf corridor)) && sized-same (linksOf corridor) demands fits z))
+      && (corridorSized (linksOf corridor) (length corridor) && sized-same (linksOf corridor) demands fits z))
 
-  ranged : ranges (roadOf corridor demands) ≡ ranges (roadOf corridor full)
-  ranged = roads-ranges _ _ roads
+  pub demands-alike : SameOnLists corridor demands corridor (completed (stepsOf demands) demands)
+  demands-alike = alike-lists corridor demands corridor full roads fit
 
-  bounded : (plan : List ℕ) → planBounds corridor demands plan ≡ planBounds corridor full plan
-  bounded plan = roads-bounds _ _ roads plan
+  pub demands-checks : (words : List ℕ) → checkAnswer corridor demands words ≡ checkAnswer corridor (completed (stepsOf demands) demands) words
+  demands-checks = alike-checks corridor demands corridor full roads fit
 
-  judges : (words : List ℕ) → judged recordWidth (roadOf corridor demands) words ≡ judged recordWidth (roadOf corridor full) words
-  judges words = roads-judged _ _ roads recordWidth words
-
-  simulates : (plan : List ℕ) → simulated corridor demands plan ≡ simulated corridor full plan
-  unfolding simulated
-  simulates plan = roads-record _ _ roads recordWidth plan
-
-  pub converts : (words : List ℕ) → converted corridor demands words ≡ converted corridor (completed (stepsOf demands) demands) words
-  unfolding converted
-  converts words = roads-plan _ _ roads recordWidth words
-
-  -- ---- the calls
-
-  simulate-same : (plan : List ℕ) (room : ℕ) → simulateAnswer corridor demands plan room ≡ simulateAnswer corridor full plan room
-  unfolding simulateAnswer simulateSizes
-  simulate-same plan room =
-      λ z. orElse
-      (sized (fit z && (eqb (length plan) (planLength (linksOf corridor) (steps z)) && eqb room (recordLength recordWidth (linksOf corridor) (steps z)))))
-      (orElse (ranged z) (bounded plan z))
-
-  check-same : (words : List ℕ) → checkAnswer corridor demands words ≡ checkAnswer corridor full words
-  unfolding checkAnswer
-  check-same words =
-      λ z. orElse (sized (fit z && eqb (length words) (recordLength recordWidth (linksOf corridor) (steps z)))) (orElse (ranged z) (judges words z))
-
-  convert-same : (words : List ℕ) (room : ℕ) → convertAnswer corridor demands words room ≡ convertAnswer corridor full words room
-  unfolding convertAnswer
-  convert-same words room =
-      λ z. orElse
-      (sized (fit z && (eqb (length words) (recordLength recordWidth (linksOf corridor) (steps z)) && eqb room (planLength (linksOf corridor) (steps z)))))
-      (orElse (ranged z) (judges words z))
-
-  refuses-same : (plan : List ℕ) (work room : ℕ) → normalRefusal corridor demands plan work room ≡ normalRefusal corridor full plan work room
-  unfolding normalRefusal
-  refuses-same plan work room =
-      λ z. orElse
-      (sized
-      (fit z
-      && (eqb (length plan) (planLength (linksOf corridor) (steps z))
-      && (eqb work (recordLength recordWidth (linksOf corridor) (steps z)) && eqb room (planLength (linksOf corridor) (steps z))))))
-      (orElse (ranged z) (bounded plan z))
-
-  judges-both : (plan : List ℕ)
-      → judged recordWidth (roadOf corridor demands) (simulated corridor demands plan) ≡ judged recordWidth (roadOf corridor full) (simulated corridor full plan)
-  judges-both plan = judges (simulated corridor demands plan) ∙ ap (judged recordWidth (roadOf corridor full)) (simulates plan)
-
-  normal-same : (plan : List ℕ) (work room : ℕ) → normalAnswer corridor demands plan work room ≡ normalAnswer corridor full plan work room
-  unfolding normalAnswer
-  normal-same plan work room = λ z. orElse (refuses-same plan work room z) (judges-both plan z)
-
-  pub same-on-lists : SameOnLists corridor demands (completed (stepsOf demands) demands)
-  unfolding recordLeft planLeft workLeft normalLeft normalForm
-  same-on-lists =
-      record {
-        simulate-answers = simulate-same;
-        simulate-writes = λ plan lent z. left (simulate-same plan (length lent) z) (simulates plan z) lent;
-        check-answers = check-same;
-        convert-answers = convert-same;
-        convert-writes = λ words lent z. left (convert-same words (length lent) z) (converts words z) lent;
-        normal-answers = normal-same;
-        normal-works = λ plan lent room z. left (refuses-same plan (length lent) room z) (simulates plan z) lent;
-        normal-writes =
-            λ plan work lent.
-            ap₂ (λ (a : Answer) (words : List ℕ). left a words lent) (normal-same plan work (length lent))
-            (converts (simulated corridor demands plan) ∙ ap (converted corridor full) (simulates plan));
-      }
+  pub demands-plans : (words : List ℕ) → converted corridor demands words ≡ converted corridor (completed (stepsOf demands) demands) words
+  demands-plans = alike-plans corridor demands corridor full roads fit

@@ -2,6 +2,11 @@ pub mod Demand2
 pub mod Demand3
 pub mod Beside
 pub mod Cases
-pub mod Downstream
+pub mod Requests
+pub mod Drop
+pub mod Alike
+pub mod AlikeFiles
 pub mod Completed
 pub mod CompletedFiles
+pub mod CompletedCorridor
+pub mod CompletedCorridorFiles

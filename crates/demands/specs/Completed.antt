@@ -1,10 +1,14 @@
--- An older kind is the newer one completed (request 01): demands of kind 2, and those of kind 5 with 65,536 for every step, have the same answers
--- and the same outputs in every call that computes with them. The calls on a slice of nodes are those on lists at the nodes' words.
-use Prim.Native.Nat.{ℕ}
-use mathlib.Core.List.{List, _++_}
+-- An older kind is the newer one completed: demands of kind 2, and those of kind 5 with 65,536 for every step (request 01); a corridor of kind 1,
+-- and that of kind 10 with F and J for each node's drop (request 07). They have the same answers and the same outputs in every call that computes
+-- with them. The calls on a slice of nodes are those on lists at the nodes' words.
+use Prim.Native.Nat.{ℕ, suc, _+_, _*_}
+use mathlib.Core.Bool.{cond}
+use mathlib.Core.List.{List, _∷_, _++_}
 use mathlib.Core.Path.{_≡_}
-use lib.ListN.{length, replicate}
-use Rattle.lists.specs.Words.{linksOf, stepsOf, demandsLength, free}
+use lib.Dec.{ltb, eqb}
+use lib.ListN.{length, getD, replicate}
+use Rattle.tables.specs.Grid.{rowWords}
+use Rattle.lists.specs.Words.{linksOf, stepsOf, corridorLength, demandsLength, free}
 use Rattle.simulate.specs.Simulate.{simulateAnswer, recordLeft}
 use Rattle.payload.specs.Word.{Words}
 use Rattle.payload.specs.File.{fileOf}
@@ -15,26 +19,38 @@ use Rattle.convert.specs.Convert.{checkAnswer, convertAnswer, planLeft, normalA
 unfoldable pub completed : ℕ → List ℕ → List ℕ
 completed steps demands = demands ++ replicate steps free
 
+-- word q of node i in a corridor of kind 1, and then its F and its J
+unfoldable pub completedWord : List ℕ → ℕ → ℕ → ℕ
+completedWord corridor i q = getD corridor (1 + (i * 9 + cond (ltb q 9) q (cond (eqb q 9) 1 4))) 0
+
+-- a corridor of N links with dropped capacity F and drop density J at each node
+unfoldable pub completedCorridor : ℕ → List ℕ → List ℕ
+completedCorridor links corridor = linksOf corridor ∷ rowWords 11 (suc links) (completedWord corridor)
+
 -- the calls on lists; `room`, and `work` of a normal form, are the lengths of lent lists
-pub record SameOnLists (corridor demands other : List ℕ) : Type 0 where
-  pub simulate-answers : (plan : List ℕ) (room : ℕ) → simulateAnswer corridor demands plan room ≡ simulateAnswer corridor other plan room
-  pub simulate-writes : (plan lent : List ℕ) → recordLeft corridor demands plan lent ≡ recordLeft corridor other plan lent
-  pub check-answers : (words : List ℕ) → checkAnswer corridor demands words ≡ checkAnswer corridor other words
-  pub convert-answers : (words : List ℕ) (room : ℕ) → convertAnswer corridor demands words room ≡ convertAnswer corridor other words room
-  pub convert-writes : (words lent : List ℕ) → planLeft corridor demands words lent ≡ planLeft corridor other words lent
-  pub normal-answers : (plan : List ℕ) (work room : ℕ) → normalAnswer corridor demands plan work room ≡ normalAnswer corridor other plan work room
-  pub normal-works : (plan lent : List ℕ) (room : ℕ) → workLeft corridor demands plan lent room ≡ workLeft corridor other plan lent room
-  pub normal-writes : (plan : List ℕ) (work : ℕ) (lent : List ℕ) → normalLeft corridor demands plan work lent ≡ normalLeft corridor other plan work lent
+pub record SameOnLists (corridor demands corridor′ demands′ : List ℕ) : Type 0 where
+  pub simulate-answers : (plan : List ℕ) (room : ℕ) → simulateAnswer corridor demands plan room ≡ simulateAnswer corridor′ demands′ plan room
+  pub simulate-writes : (plan lent : List ℕ) → recordLeft corridor demands plan lent ≡ recordLeft corridor′ demands′ plan lent
+  pub check-answers : (words : List ℕ) → checkAnswer corridor demands words ≡ checkAnswer corridor′ demands′ words
+  pub convert-answers : (words : List ℕ) (room : ℕ) → convertAnswer corridor demands words room ≡ convertAnswer corridor′ demands′ words room
+  pub convert-writes : (words lent : List ℕ) → planLeft corridor demands words lent ≡ planLeft corridor′ demands′ words lent
+  pub normal-answers : (plan : List ℕ) (work room : ℕ) → normalAnswer corridor demands plan work room ≡ normalAnswer corridor′ demands′ plan work room
+  pub normal-works : (plan lent : List ℕ) (room : ℕ) → workLeft corridor demands plan lent room ≡ workLeft corridor′ demands′ plan lent room
+  pub normal-writes : (plan : List ℕ) (work : ℕ) (lent : List ℕ) → normalLeft corridor demands plan work lent ≡ normalLeft corridor′ demands′ plan work lent
 
--- the calls on files: `demands` and `other` are the demands' files
-pub record SameOnFiles (n k : ℕ) (corridor demands other recorded : List ℕ) : Type 0 where
-  pub check-answers : checkFiles n k corridor demands recorded ≡ checkFiles n k corridor other recorded
-  pub convert-answers : (room : ℕ) → convertFiles n k corridor demands recorded room ≡ convertFiles n k corridor other recorded room
-  pub convert-writes : (lent : List ℕ) → planWritten n k corridor demands recorded lent ≡ planWritten n k corridor other recorded lent
+-- the calls on files
+pub record SameOnFiles (n k : ℕ) (corridor demands corridor′ demands′ recorded : List ℕ) : Type 0 where
+  pub check-answers : checkFiles n k corridor demands recorded ≡ checkFiles n k corridor′ demands′ recorded
+  pub convert-answers : (room : ℕ) → convertFiles n k corridor demands recorded room ≡ convertFiles n k corridor′ demands′ recorded room
+  pub convert-writes : (lent : List ℕ) → planWritten n k corridor demands recorded lent ≡ planWritten n k corridor′ demands′ recorded lent
 
--- of every corridor and all demands of kind 2, whatever their words; on files, of every N and K
+-- whatever the words of the list that is completed and of all others; on files, for every N and K
 pub record Completes : Type 0 where
-  pub on-lists : (corridor demands : List ℕ) → length demands ≡ demandsLength (linksOf corridor) (stepsOf demands)
-      → SameOnLists corridor demands (completed (stepsOf demands) demands)
-  pub on-files : (n k : ℕ) (corridor demands recorded : List ℕ) → Words demands → length demands ≡ demandsLength n k
-      → SameOnFiles n k corridor (fileOf 2 demands) (fileOf 5 (completed k demands)) recorded
+  pub demands-on-lists : (corridor demands : List ℕ) → length demands ≡ demandsLength (linksOf corridor) (stepsOf demands)
+      → SameOnLists corridor demands corridor (completed (stepsOf demands) demands)
+  pub demands-on-files : (n k : ℕ) (corridor demands recorded : List ℕ) → Words demands → length demands ≡ demandsLength n k
+      → SameOnFiles n k corridor (fileOf 2 demands) corridor (fileOf 5 (completed k demands)) recorded
+  pub corridor-on-lists : (corridor demands : List ℕ) → length corridor ≡ corridorLength 9 (linksOf corridor)
+      → SameOnLists corridor demands (completedCorridor (linksOf corridor) corridor) demands
+  pub corridor-on-files : (n k : ℕ) (corridor demands recorded : List ℕ) → Words corridor → length corridor ≡ corridorLength 9 n
+      → SameOnFiles n k (fileOf 1 corridor) demands (fileOf 10 (completedCorridor n corridor)) demands recorded

@@ -4,3 +4,4 @@ pub mod Beside
 pub mod Cases
 pub mod Downstream
 pub mod Completed
+pub mod Drop

@@ -1,58 +1,58 @@
--- What the program prints for records of B: two as document 01 has it, and two with demands of kind 5.
+-- What the program prints for records of B: two as document 01 has it, two with demands of kind 5, and two with a corridor of kind 10.
 use Prim.Native.Nat.{ℕ}
 use mathlib.Core.List.{List, [], _∷_, _++_}
 use mathlib.Core.Path.{_≡_}
 use Rattle.simulate.specs.B.{corridor, demands, record-1, recordWith}
 use Rattle.payload.specs.File.{fileOf}
+use Rattle.demands.specs.Downstream.{demandsWith, recordOut}
+use Rattle.demands.specs.Drop.{corridorWith}
 use Rattle.printed.specs.Text.{printed}
 
--- the files of B's corridor, its demands and a record, one after another
+-- the files of a corridor, of demands and of a record, one after another
+abbrev pub inputOf : List ℕ → List ℕ → List ℕ → List ℕ
+inputOf first second words = first ++ (second ++ fileOf 3 words)
+
+-- B's own
 abbrev pub inputWith : List ℕ → List ℕ
-inputWith words = fileOf 1 corridor ++ (fileOf 2 demands ++ fileOf 3 words)
+inputWith = inputOf (fileOf 1 corridor) (fileOf 2 demands)
 
--- PLAN 1 3 370, then 0 10 0 0 F, then 0 20 50 32768 F, then 0 30 0 32768 F
-abbrev pub plan-1 : List ℕ
-plan-1 =
-    80 ∷ 76 ∷ 65 ∷ 78 ∷ 32 ∷ 49 ∷ 32 ∷ 51 ∷ 32 ∷ 51 ∷ 55 ∷ 48 ∷ 10
+-- with demands of kind 5: 70 units may leave link 2, which sends 100 at full speed
+abbrev pub inputBehind : List ℕ → List ℕ
+inputBehind = inputOf (fileOf 1 corridor) (fileOf 5 (demandsWith 70))
+
+-- with a corridor of kind 10: link 2, which has 200 vehicles, discharges 80 above 190
+abbrev pub inputDropped : List ℕ → List ℕ
+inputDropped = inputOf (fileOf 10 (corridorWith 80 190)) (fileOf 2 demands)
+
+-- PLAN 1 3 and the cost, then 0 10 0 0 F, then 0 20 50 32768 F, then 0 30 0 with a limit and a letter
+abbrev pub planText : List ℕ → List ℕ → List ℕ
+planText total last =
+    (80 ∷ 76 ∷ 65 ∷ 78 ∷ 32 ∷ 49 ∷ 32 ∷ 51 ∷ 32 ∷ [])
+    ++ (total
+    ++ ((10
     ∷ 48 ∷ 32 ∷ 49 ∷ 48 ∷ 32 ∷ 48 ∷ 32 ∷ 48 ∷ 32 ∷ 70 ∷ 10
     ∷ 48 ∷ 32 ∷ 50 ∷ 48 ∷ 32 ∷ 53 ∷ 48 ∷ 32 ∷ 51 ∷ 50 ∷ 55 ∷ 54 ∷ 56 ∷ 32 ∷ 70 ∷ 10
-    ∷ 48 ∷ 32 ∷ 51 ∷ 48 ∷ 32 ∷ 48 ∷ 32 ∷ 51 ∷ 50 ∷ 55 ∷ 54 ∷ 56 ∷ 32 ∷ 70 ∷ 10
-    ∷ []
+    ∷ 48 ∷ 32 ∷ 51 ∷ 48 ∷ 32 ∷ 48 ∷ 32 ∷ [])
+    ++ (last ++ (10 ∷ []))))
 
--- REFUSED 9 0 1
-abbrev pub refused-5 : List ℕ
-refused-5 = 82 ∷ 69 ∷ 70 ∷ 85 ∷ 83 ∷ 69 ∷ 68 ∷ 32 ∷ 57 ∷ 32 ∷ 48 ∷ 32 ∷ 49 ∷ 10 ∷ []
+-- 32768 F, and 13108 H
+abbrev pub fullSpeed : List ℕ
+fullSpeed = 51 ∷ 50 ∷ 55 ∷ 54 ∷ 56 ∷ 32 ∷ 70 ∷ []
 
--- the same with demands of kind 5: 70 units may leave link 2, which sends 100 at full speed; f of node 2, n of link 2 after it, and the cost
-abbrev pub inputBehind : ℕ → ℕ → ℕ → List ℕ
-inputBehind main second total =
-    fileOf 1 corridor
-    ++ (fileOf 5 (1 ∷ 30 ∷ 0 ∷ 10 ∷ 16384 ∷ 0 ∷ 0 ∷ 70 ∷ [])
-    ++ fileOf 3
-    (0 ∷ 0 ∷ 0 ∷ 0
-    ∷ 200 ∷ 50 ∷ 80 ∷ 40
-    ∷ 200 ∷ 0 ∷ main ∷ 0
-    ∷ 0 ∷ 30 ∷ 0 ∷ 0
-    ∷ 120 ∷ 20 ∷ 0 ∷ 0
-    ∷ second ∷ 0 ∷ 0 ∷ 0
-    ∷ total ∷ 0
-    ∷ []))
+abbrev pub heldSpeed : List ℕ
+heldSpeed = 49 ∷ 51 ∷ 49 ∷ 48 ∷ 56 ∷ 32 ∷ 72 ∷ []
 
--- PLAN 1 3 430, then 0 10 0 0 F, then 0 20 50 32768 F, then 0 30 0 13108 H
-abbrev pub plan-held : List ℕ
-plan-held =
-    80 ∷ 76 ∷ 65 ∷ 78 ∷ 32 ∷ 49 ∷ 32 ∷ 51 ∷ 32 ∷ 52 ∷ 51 ∷ 48 ∷ 10
-    ∷ 48 ∷ 32 ∷ 49 ∷ 48 ∷ 32 ∷ 48 ∷ 32 ∷ 48 ∷ 32 ∷ 70 ∷ 10
-    ∷ 48 ∷ 32 ∷ 50 ∷ 48 ∷ 32 ∷ 53 ∷ 48 ∷ 32 ∷ 51 ∷ 50 ∷ 55 ∷ 54 ∷ 56 ∷ 32 ∷ 70 ∷ 10
-    ∷ 48 ∷ 32 ∷ 51 ∷ 48 ∷ 32 ∷ 48 ∷ 32 ∷ 49 ∷ 51 ∷ 49 ∷ 48 ∷ 56 ∷ 32 ∷ 72 ∷ 10
-    ∷ []
-
--- REFUSED 9 0 2
-abbrev pub refused-behind : List ℕ
-refused-behind = 82 ∷ 69 ∷ 70 ∷ 85 ∷ 83 ∷ 69 ∷ 68 ∷ 32 ∷ 57 ∷ 32 ∷ 48 ∷ 32 ∷ 50 ∷ 10 ∷ []
+-- REFUSED, a number of one digit, 0 and a node of one digit
+abbrev pub refusedText : ℕ → ℕ → List ℕ
+refusedText number node = 82 ∷ 69 ∷ 70 ∷ 85 ∷ 83 ∷ 69 ∷ 68 ∷ 32 ∷ number ∷ 32 ∷ 48 ∷ 32 ∷ node ∷ 10 ∷ []
 
 pub record Cases : Type 0 where
-  pub case-1 : printed (inputWith record-1) ≡ plan-1
-  pub case-5 : printed (inputWith (recordWith 100 26 100 201 30 34 365)) ≡ refused-5
-  pub held-at-node-2 : printed (inputBehind 40 260 430) ≡ plan-held
-  pub refused-at-node-2 : printed (inputBehind 71 229 399) ≡ refused-behind
+  -- 370; 9 0 1
+  pub case-1 : printed (inputWith record-1) ≡ planText (51 ∷ 55 ∷ 48 ∷ []) fullSpeed
+  pub case-5 : printed (inputWith (recordWith 100 26 100 201 30 34 365)) ≡ refusedText 57 49
+  -- 430; 9 0 2
+  pub held-at-node-2 : printed (inputBehind (recordOut 40 260 430)) ≡ planText (52 ∷ 51 ∷ 48 ∷ []) heldSpeed
+  pub refused-at-node-2 : printed (inputBehind (recordOut 71 229 399)) ≡ refusedText 57 50
+  -- 390; 8 0 2
+  pub full-with-a-drop : printed (inputDropped (recordOut 80 220 390)) ≡ planText (51 ∷ 57 ∷ 48 ∷ []) fullSpeed
+  pub refused-with-a-drop : printed (inputDropped (recordOut 81 219 389)) ≡ refusedText 56 50
