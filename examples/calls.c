@@ -1,25 +1,29 @@
 /* Every call of the header at least once, on B, the corridor that docs/MODEL.md works through: case 1 simulated, checked, converted and brought to normal form, by words,
- * by nodes and by files; then with demands of kind 5, which let 70 units out of link 2. It prints nothing and ends with status 0 where all is as worked there. */
+ * by nodes and by files; then with demands of kind 5, which let 70 units out of link 2; then with a corridor of kind 10, whose link 2 discharges 80 above 190. It prints
+ * nothing and ends with status 0 where all is as worked there. */
 #include "gigorchid.h"
 
 #include <stdio.h>
 #include <string.h>
 
-enum { N = 2, K = 1, CORRIDOR = 28, DEMANDS = 7, DOWNSTREAM = 8, PLAN = 6, RECORD = 26, BLOCK = 512 };
+enum { N = 2, K = 1, CORRIDOR = 28, DROP = 34, DEMANDS = 7, DOWNSTREAM = 8, PLAN = 6, RECORD = 26, BLOCK = 512 };
 
+static const uint32_t corridor[CORRIDOR] = {2, 10, 0, 0, 0, 0, 100, 1000, 0, 0, 20, 100, 32768, 32768, 400, 60, 200, 200, 50, 30, 100, 32768, 32768, 400, 0, 0, 200, 0};
+/* No link drops. */
 static const struct gigorchid_node nodes[N + 1] = {
-    {10, 0, 0, 0, 0, 100, 1000, 0, 0},
-    {20, 100, 32768, 32768, 400, 60, 200, 200, 50},
-    {30, 100, 32768, 32768, 400, 0, 0, 200, 0},
+    {10, 0, 0, 0, 0, 100, 1000, 0, 0, 0, 0},
+    {20, 100, 32768, 32768, 400, 60, 200, 200, 50, 100, 400},
+    {30, 100, 32768, 32768, 400, 0, 0, 200, 0, 100, 400},
 };
 static const uint32_t demands[DEMANDS] = {1, 30, 0, 10, 16384, 0, 0};
 static const uint32_t plan[PLAN] = {100, 0, 60, 32768, 0, 32768};
 static const uint32_t record[RECORD] = {0, 0, 0, 0, 200, 50, 80, 40, 200, 0, 100, 0, 0, 30, 0, 0, 120, 20, 0, 0, 200, 0, 0, 0, 370, 0};
 static const uint32_t downstream[DOWNSTREAM] = {1, 30, 0, 10, 16384, 0, 0, 70};
 static const uint32_t behind[RECORD] = {0, 0, 0, 0, 200, 50, 80, 40, 200, 0, 70, 0, 0, 30, 0, 0, 120, 20, 0, 0, 230, 0, 0, 0, 400, 0};
+static const uint32_t dropped[RECORD] = {0, 0, 0, 0, 200, 50, 80, 40, 200, 0, 80, 0, 0, 30, 0, 0, 120, 20, 0, 0, 220, 0, 0, 0, 390, 0};
 static const uint32_t normal[PLAN] = {0, 0, 50, 32768, 0, 32768};
 
-static uint32_t corridor[CORRIDOR], work[RECORD], found[PLAN];
+static uint32_t work[RECORD], found[PLAN];
 static uint8_t corridor_file[BLOCK], demands_file[BLOCK], record_file[BLOCK], plan_file[BLOCK];
 
 static int wrong(const char *what)
@@ -130,9 +134,42 @@ static int with_downstream(void)
     return 0;
 }
 
+/* Link 2, which has 200 vehicles, discharges 80 above 190: by nodes, and by words and files of kind 10. */
+static int with_drop(void)
+{
+    struct gigorchid_node changed[N + 1];
+    uint32_t drop[DROP], words[DROP];
+    memcpy(changed, nodes, sizeof nodes);
+    changed[2].dropped_capacity = 80;
+    changed[2].drop_density = 190;
+    drop[0] = N;
+    memcpy(drop + 1, changed, sizeof changed);
+    clear();
+    if (gigorchid_simulate_nodes(changed, N + 1, demands, DEMANDS, plan, PLAN, work, RECORD) != 0 || !same(work, dropped, RECORD))
+        return wrong("simulate_nodes with a drop");
+    if (gigorchid_convert_words(drop, DROP, demands, DEMANDS, dropped, RECORD, found, PLAN) != 0 || !same(found, normal, PLAN))
+        return wrong("convert_words with a drop");
+    if (gigorchid_write_corridor(N, K, drop, DROP, corridor_file, BLOCK) != 0 || corridor_file[0] != 10
+        || gigorchid_corridor_words(N, corridor_file, BLOCK) != DROP)
+        return wrong("write_corridor of kind 10");
+    if (gigorchid_read_corridor(N, K, corridor_file, BLOCK, words, DROP) != 0 || !same(words, drop, DROP))
+        return wrong("read_corridor of kind 10");
+    if (gigorchid_read_corridor(N, K, corridor_file, BLOCK, words, CORRIDOR) != 1)
+        return wrong("a corridor of kind 10 read into a list of kind 1's length");
+    if (gigorchid_write_demands(N, K, demands, DEMANDS, demands_file, BLOCK) != 0
+        || gigorchid_write_record(N, K, dropped, RECORD, record_file, BLOCK) != 0
+        || gigorchid_check_files(N, K, corridor_file, BLOCK, demands_file, BLOCK, record_file, BLOCK) != 0)
+        return wrong("check_files with a drop");
+    work[10] = 81;
+    if (gigorchid_check_nodes(changed, N + 1, demands, DEMANDS, work, RECORD) != 2 * 256 + GIGORCHID_BAD_SENDING)
+        return wrong("81 out of link 2");
+    changed[2].dropped_capacity = 101;
+    if (gigorchid_check_nodes(changed, N + 1, demands, DEMANDS, dropped, RECORD) != 2 * 256 + GIGORCHID_BAD_LINK)
+        return wrong("a dropped capacity above F");
+    return 0;
+}
+
 int main(void)
 {
-    corridor[0] = N;
-    memcpy(corridor + 1, nodes, sizeof nodes);
-    return by_words() || by_nodes() || by_files() || read_back() || with_downstream();
+    return by_words() || by_nodes() || by_files() || read_back() || with_downstream() || with_drop();
 }

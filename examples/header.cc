@@ -2,22 +2,26 @@
 // and ends with status 0 where all is as the header says.
 #include "gigorchid.h"
 
+#include <cstddef>
 #include <cstdio>
 #include <cstring>
 
 static_assert(GIGORCHID_CORRIDOR_WORDS(GIGORCHID_MOST_LINKS) == 586, "corridor");
+static_assert(GIGORCHID_CORRIDOR_10_WORDS(GIGORCHID_MOST_LINKS) == 716, "corridor of kind 10");
 static_assert(GIGORCHID_DEMANDS_WORDS(GIGORCHID_MOST_LINKS, GIGORCHID_MOST_STEPS) == 187201, "demands");
 static_assert(GIGORCHID_DEMANDS_5_WORDS(GIGORCHID_MOST_LINKS, GIGORCHID_MOST_STEPS) == 188641, "demands of kind 5");
 static_assert(GIGORCHID_PLAN_WORDS(GIGORCHID_MOST_LINKS, GIGORCHID_MOST_STEPS) == 187200, "plan");
 static_assert(GIGORCHID_RECORD_WORDS(GIGORCHID_MOST_LINKS, GIGORCHID_MOST_STEPS) == 374662, "record");
 static_assert(GIGORCHID_FILE_BYTES(586) == 2560, "file of a corridor");
+static_assert(GIGORCHID_FILE_BYTES(716) == 3072, "file of a corridor of kind 10");
 static_assert(GIGORCHID_FILE_BYTES(187201) == 766976, "file of demands");
 static_assert(GIGORCHID_FILE_BYTES(188641) == 773120, "file of demands of kind 5");
 static_assert(GIGORCHID_FILE_BYTES(187200) == 766976, "file of a plan");
 static_assert(GIGORCHID_FILE_BYTES(374662) == 1534976, "file of a record");
 static_assert(GIGORCHID_FILE_BYTES(125) == GIGORCHID_BLOCK_BYTES && GIGORCHID_FILE_BYTES(126) == 2 * GIGORCHID_BLOCK_BYTES, "full block");
 static_assert(GIGORCHID_VERSION == 10000 * GIGORCHID_VERSION_MAJOR + 100 * GIGORCHID_VERSION_MINOR + GIGORCHID_VERSION_PATCH, "version");
-static_assert(sizeof(gigorchid_node) == 9 * sizeof(uint32_t), "a node has nine words");
+static_assert(sizeof(gigorchid_node) == 11 * sizeof(uint32_t), "a node has eleven words");
+static_assert(offsetof(gigorchid_node, dropped_capacity) == 9 * sizeof(uint32_t), "the dropped capacity is the tenth");
 
 // The version's text has its three numbers.
 static bool version_agrees()
@@ -41,7 +45,7 @@ static bool texts_differ()
 // One link for one step whose queue, of 5, ends above its limit of 4: 12 at step 0 and node 0, with the work record filled.
 static bool answer_taken_apart()
 {
-    const gigorchid_node corridor[] = {{7, 0, 0, 0, 0, 9, 4, 0, 4}, {8, 100, 65536, 65536, 100, 0, 0, 0, 0}};
+    const gigorchid_node corridor[] = {{7, 0, 0, 0, 0, 9, 4, 0, 4, 0, 0}, {8, 100, 65536, 65536, 100, 0, 0, 0, 0, 100, 100}};
     const uint32_t demands[GIGORCHID_DEMANDS_WORDS(1, 1)] = {1, 1, 0, 0, 0};
     const uint32_t plan[GIGORCHID_PLAN_WORDS(1, 1)] = {0, 0, 0, 65536};
     uint32_t work[GIGORCHID_RECORD_WORDS(1, 1)] = {}, normal[GIGORCHID_PLAN_WORDS(1, 1)] = {9, 9, 9, 9};
@@ -52,19 +56,30 @@ static bool answer_taken_apart()
         && normal[0] == 9 && GIGORCHID_REFUSAL(high) == GIGORCHID_BAD_MERGE && GIGORCHID_NODE(high) == 2 && GIGORCHID_ROW(high) == 3;
 }
 
-// A file tells by its first word, all four bytes of it, how many words its demands have.
-static bool kinds_told()
+// A file tells by its first word, all four bytes of it, whether it is of a kind.
+static bool kind_told(uint8_t kind)
 {
-    const uint8_t five[] = {5, 0, 0, 0}, two[] = {2, 0, 0, 0}, others[][4] = {{5, 1, 0, 0}, {5, 0, 1, 0}, {5, 0, 0, 1}, {0, 5, 0, 0}};
+    const uint8_t file[] = {kind, 0, 0, 0};
+    const uint8_t others[][4] = {{kind, 1, 0, 0}, {kind, 0, 1, 0}, {kind, 0, 0, 1}, {0, kind, 0, 0}, {0, 0, 0, 0}};
     for (const uint8_t(&other)[4] : others)
-        if (gigorchid_demands_words(2, 3, other, 4) != GIGORCHID_DEMANDS_WORDS(2, 3))
+        if (gigorchid_file_is(kind, other, 4))
             return false;
-    return gigorchid_demands_words(2, 3, five, 4) == GIGORCHID_DEMANDS_5_WORDS(2, 3)
-        && gigorchid_demands_words(2, 3, two, 4) == GIGORCHID_DEMANDS_WORDS(2, 3)
-        && gigorchid_demands_words(2, 3, five, 3) == GIGORCHID_DEMANDS_WORDS(2, 3);
+    return gigorchid_file_is(kind, file, 4) && !gigorchid_file_is(kind, file, 3);
+}
+
+// And so how many words its corridor or its demands have: 10 and 5 are the later kinds.
+static bool words_told()
+{
+    const uint8_t files[][4] = {{1, 0, 0, 0}, {2, 0, 0, 0}, {5, 0, 0, 0}, {10, 0, 0, 0}};
+    return gigorchid_corridor_words(2, files[0], 4) == GIGORCHID_CORRIDOR_WORDS(2)
+        && gigorchid_corridor_words(2, files[2], 4) == GIGORCHID_CORRIDOR_WORDS(2)
+        && gigorchid_corridor_words(2, files[3], 4) == GIGORCHID_CORRIDOR_10_WORDS(2)
+        && gigorchid_demands_words(2, 3, files[1], 4) == GIGORCHID_DEMANDS_WORDS(2, 3)
+        && gigorchid_demands_words(2, 3, files[2], 4) == GIGORCHID_DEMANDS_5_WORDS(2, 3)
+        && gigorchid_demands_words(2, 3, files[3], 4) == GIGORCHID_DEMANDS_WORDS(2, 3);
 }
 
 int main()
 {
-    return version_agrees() && texts_differ() && answer_taken_apart() && kinds_told() ? 0 : 1;
+    return version_agrees() && texts_differ() && answer_taken_apart() && kind_told(5) && kind_told(10) && words_told() ? 0 : 1;
 }

@@ -68,8 +68,8 @@ static const char *spoken_of(uint32_t n, uint32_t k, const struct bytes files[3]
     static const char *const names[3] = {" (corridor)", " (demands)", " (record)"};
     if (n < 1 || n > GIGORCHID_MOST_LINKS || k < 1 || k > GIGORCHID_MOST_STEPS)
         return " (N or K)";
-    const size_t counts[3] = {GIGORCHID_CORRIDOR_WORDS(n), gigorchid_demands_words(n, k, files[1].at, files[1].count),
-                              GIGORCHID_RECORD_WORDS(n, k)};
+    const size_t counts[3] = {gigorchid_corridor_words(n, files[0].at, files[0].count),
+                              gigorchid_demands_words(n, k, files[1].at, files[1].count), GIGORCHID_RECORD_WORDS(n, k)};
     for (int i = 0; i < 3; i++) {
         uint32_t *words = space(counts[i] * sizeof *words);
         uint32_t answer = readers[i](n, k, files[i].at, files[i].count, words, counts[i]);

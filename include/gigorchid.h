@@ -41,6 +41,8 @@
  *     Q       arrivals at an on-ramp        1/64 vehicle per step           0..65,536
  *     b       split to the off-ramp         parts of 65,536                 0..65,536
  *     P       flow that may leave link N    1/64 vehicle per step           0..65,536
+ *     -       dropped capacity of a link    1/64 vehicle per step           0..F
+ *     -       drop density of a link        1/64 vehicle                    0..J
  *     rate    metering rate of an on-ramp   1/64 vehicle per step           0..C
  *     limit   speed limit on a link         1/65,536 of its length a step   0..V
  *     f       flow that leaves a link       1/64 vehicle per step           in a record
@@ -49,13 +51,20 @@
  *
  * ---- Lists: the order of their words ----
  *
- *     corridor  N, then for each node 0..N:                     identifier, F, V, W, J, C, L, n, l
+ *     corridor  N, then for each node 0..N:                     identifier, F, V, W, J, C, L, n, l; of kind 10 then, of the same node:
+ *                                                               dropped capacity, drop density
  *     demands   K, then for each step 0..K-1, each node 0..N:   Q, b; of kind 5 then, after all steps, for each step 0..K-1: P
  *     plan      for each step 0..K-1, each node 0..N:           rate, limit
  *     record    for each state 0..K, each node 0..N:            n, l, f, r; then the cost, 2 words
  *
  * At node i F, V, W, J, n, f and limit are those of link i; C, L, l, r, Q and rate those of its on-ramp; b that of its off-ramp.
- * Fixed at zero: F, V, W, J, n, f, b and limit of node 0; C, L, l, r, Q, b and rate of node N; every f and r of state K.
+ * Fixed at zero: F, V, W, J, n, f, b, limit, dropped capacity and drop density of node 0; C, L, l, r, Q, b and rate of node N; every f and r
+ * of state K.
+ *
+ * A corridor is of kind 1, or of kind 10, for links that discharge less once a queue stands on them. N is read first; the count of words then
+ * tells the kind in a list (100 words are kind 10 for 8 links and kind 1 for 10), and the first word in a file: 10 is kind 10, and any other,
+ * or a file of fewer than 4 bytes, is read as kind 1. Every call takes both. Kind 1 is kind 10 with dropped capacity F and drop density J at
+ * every node: no link drops.
  *
  * Demands are of kind 2, or of kind 5, for a corridor past whose last link traffic may queue. P of step k is word 1 + 2 x K x (N + 1) + k of
  * the list, its words counted from 0. In a list the count of its words tells the kind, in a file its first word: 5 is kind 5, and any other, or
@@ -64,7 +73,8 @@
  *
  * ---- A step, at node i; every quotient is rounded down ----
  *
- *     1  sending       D = min(n x limit / 65,536, F)                       of link i; 0 at node 0
+ *     1  sending       D = min(n x limit / 65,536, E)                       of link i; 0 at node 0; E = F where n is at or below the drop
+ *                                                                           density, and the dropped capacity where n is above it
  *     2  through part  T(y) = y - y x b / 65,536, of a flow y               the rest leaves by the off-ramp
  *     3  offer         d = min(l, C, rate)                                  of the on-ramp; 0 at node N
  *     4  receiving     S = min(F, W x (J - n) / 65,536)                     all of link i + 1; S = P at node N
@@ -79,9 +89,9 @@
 
 /* The version of this header and of the library that comes with it; the library itself does not tell. */
 #define GIGORCHID_VERSION_MAJOR 0
-#define GIGORCHID_VERSION_MINOR 2
+#define GIGORCHID_VERSION_MINOR 3
 #define GIGORCHID_VERSION_PATCH 0
-#define GIGORCHID_VERSION_TEXT "0.2.0"
+#define GIGORCHID_VERSION_TEXT "0.3.0"
 /* The three as one number, to compare: 10,000 x major + 100 x minor + patch. */
 #define GIGORCHID_VERSION (GIGORCHID_VERSION_MAJOR * 10000 + GIGORCHID_VERSION_MINOR * 100 + GIGORCHID_VERSION_PATCH)
 
@@ -94,24 +104,28 @@ extern "C" {
 #endif
 
 /* How many words each list has for N links and K steps, and how many bytes a file of so many words has. Every count that is lent, an output's
- * too, is just this: any other is refused, by 1, and in a file that is read by 14. GIGORCHID_DEMANDS_WORDS is for demands of kind 2,
- * GIGORCHID_DEMANDS_5_WORDS for those of kind 5, K words more; so where K is 1, a list of kind 2 with one word too many is one of kind 5. The
- * macros give a size_t, take each argument once, and are constants where their arguments are, though not in #if. They test nothing and may
- * wrap: see that N and K are in range first. The longest lists, for 64 links and 1,440 steps:
+ * too, is just this: any other is refused, by 1, and in a file that is read by 14. GIGORCHID_CORRIDOR_WORDS is for a corridor of kind 1,
+ * GIGORCHID_CORRIDOR_10_WORDS for one of kind 10; GIGORCHID_DEMANDS_WORDS is for demands of kind 2, GIGORCHID_DEMANDS_5_WORDS for those of
+ * kind 5, K words more; so where K is 1, a list of kind 2 with one word too many is one of kind 5. The macros give a size_t, take each
+ * argument once, and are constants where their arguments are, though not in #if. They test nothing and may wrap: see that N and K are in range
+ * first. The longest lists, for 64 links and 1,440 steps:
  *
- *                        words     bytes of its file
- *     corridor               586       2,560
- *     demands of kind 2  187,201     766,976
- *     demands of kind 5  188,641     773,120
- *     plan               187,200     766,976
- *     record             374,662   1,534,976
+ *                          words     bytes of its file
+ *     corridor of kind 1       586       2,560
+ *     corridor of kind 10      716       3,072
+ *     demands of kind 2    187,201     766,976
+ *     demands of kind 5    188,641     773,120
+ *     plan                 187,200     766,976
+ *     record               374,662   1,534,976
  *
- * A file is a row of blocks of GIGORCHID_BLOCK_BYTES bytes: 128 words, each with its low byte first. Word 0 is the file's kind (1 corridor, 2
- * or 5 demands, 3 record, 4 plan), word 1 the block's number from 0, words 2..126 the list's next 125 words, zeros after its end, and word 127
- * the sum of (2 j + 1) x word j over j = 0..126, modulo 2^32. So N stands in bytes 8..11 of a corridor's file, and K in those of the demands'. */
+ * A file is a row of blocks of GIGORCHID_BLOCK_BYTES bytes: 128 words, each with its low byte first. Word 0 is the file's kind (1 or 10
+ * corridor, 2 or 5 demands, 3 record, 4 plan), word 1 the block's number from 0, words 2..126 the list's next 125 words, zeros after its end,
+ * and word 127 the sum of (2 j + 1) x word j over j = 0..126, modulo 2^32. So N stands in bytes 8..11 of a corridor's file, and K in those of
+ * the demands'. */
 #define GIGORCHID_MOST_LINKS 64
 #define GIGORCHID_MOST_STEPS 1440
 #define GIGORCHID_CORRIDOR_WORDS(n) (1 + (GIGORCHID_CAST(size_t, n) + 1) * 9)
+#define GIGORCHID_CORRIDOR_10_WORDS(n) (1 + (GIGORCHID_CAST(size_t, n) + 1) * 11)
 #define GIGORCHID_DEMANDS_WORDS(n, k) (1 + GIGORCHID_CAST(size_t, k) * (GIGORCHID_CAST(size_t, n) + 1) * 2)
 #define GIGORCHID_DEMANDS_5_WORDS(n, k) (1 + GIGORCHID_CAST(size_t, k) * (GIGORCHID_CAST(size_t, n) * 2 + 3))
 #define GIGORCHID_PLAN_WORDS(n, k) (GIGORCHID_CAST(size_t, k) * (GIGORCHID_CAST(size_t, n) + 1) * 2)
@@ -119,12 +133,21 @@ extern "C" {
 #define GIGORCHID_BLOCK_BYTES 512
 #define GIGORCHID_FILE_BYTES(words) ((GIGORCHID_CAST(size_t, words) + 124) / 125 * GIGORCHID_BLOCK_BYTES)
 
-/* How many words the demands in a file have, told N and K: those of the kind that its first word tells. */
+/* Whether a file's first word is this kind, of 0 to 255. */
+static inline int gigorchid_file_is(uint8_t kind, const uint8_t *file, size_t bytes)
+{
+    return bytes >= 4 && file[0] == kind && file[1] == 0 && file[2] == 0 && file[3] == 0;
+}
+
+/* How many words the corridor in a file has, told N, and the demands in a file, told N and K: those of the kind that its first word tells. */
+static inline size_t gigorchid_corridor_words(uint32_t n, const uint8_t *file, size_t bytes)
+{
+    return gigorchid_file_is(10, file, bytes) ? GIGORCHID_CORRIDOR_10_WORDS(n) : GIGORCHID_CORRIDOR_WORDS(n);
+}
+
 static inline size_t gigorchid_demands_words(uint32_t n, uint32_t k, const uint8_t *file, size_t bytes)
 {
-    if (bytes >= 4 && file[0] == 5 && file[1] == 0 && file[2] == 0 && file[3] == 0)
-        return GIGORCHID_DEMANDS_5_WORDS(n, k);
-    return GIGORCHID_DEMANDS_WORDS(n, k);
+    return gigorchid_file_is(5, file, bytes) ? GIGORCHID_DEMANDS_5_WORDS(n, k) : GIGORCHID_DEMANDS_WORDS(n, k);
 }
 
 /* The parts of an answer. The row is the step of 5, 6 and 8 to 12, the state of 7, the block of 15 to 18, and 0 elsewhere; the node is that
@@ -139,13 +162,13 @@ static inline size_t gigorchid_demands_words(uint32_t n, uint32_t k, const uint8
 #define GIGORCHID_REFUSALS(ENTRY)                                                                                                                  \
     ENTRY(GIGORCHID_ACCEPTED, 0, "accepted")                                                                                                       \
     ENTRY(GIGORCHID_BAD_LENGTH, 1, "N or K is out of range or not the list's own, or a count is not the one that N, K and the kind ask for")       \
-    ENTRY(GIGORCHID_BAD_LINK, 2, "the node's F, V, W or J is out of range, or not zero at node 0")                                                 \
+    ENTRY(GIGORCHID_BAD_LINK, 2, "the node's F, V, W, J, dropped capacity or drop density is out of range, or not zero at node 0")                 \
     ENTRY(GIGORCHID_BAD_RAMP, 3, "the node's identifier is zero or that of an earlier node, or its C or L is out of range, or not zero at node N") \
     ENTRY(GIGORCHID_BAD_START, 4, "the node starts with n above J or with l above L")                                                              \
     ENTRY(GIGORCHID_BAD_DEMAND, 5, "Q, b or, at node N, P is above 65,536, or not zero where it is fixed: b at node 0, Q and b at node N")         \
     ENTRY(GIGORCHID_BAD_PLAN, 6, "the plan's rate is above C, or its limit above V")                                                               \
     ENTRY(GIGORCHID_BAD_FIXED_WORD, 7, "n or l of state 0 is not the corridor's start, or a word fixed at zero is not zero")                       \
-    ENTRY(GIGORCHID_BAD_SENDING, 8, "f is more than the link can send at full speed: above n x V / 65,536 or above F")                             \
+    ENTRY(GIGORCHID_BAD_SENDING, 8, "f is more than the link can send at full speed: above n x V / 65,536 or above F (where it drops, its dropped capacity)")\
     ENTRY(GIGORCHID_BAD_MERGE, 9, "T(f) + r is more than the next link can take in, at node N more than may leave: above S")                       \
     ENTRY(GIGORCHID_BAD_RAMP_FLOW, 10, "r is above l or above C")                                                                                  \
     ENTRY(GIGORCHID_BAD_NEXT_STATE, 11, "n or l of the next state is not what rule 6 gives")                                                       \
@@ -190,8 +213,9 @@ uint32_t gigorchid_check_words(const uint32_t *corridor, size_t corridor_words,
                                const uint32_t *record, size_t record_words);
 
 /* The same, and fills `plan` with a plan that has the record: for each node at each step limit V and the smallest rate that gives f and r with
- * it, or, if no rate does, rate r and the smallest limit that sends f. At node N the rate is 0, and the limit V exactly where f = min(D, P) at
- * full speed, also where it is P that cuts what link N sends; it is lower only where f is less still. */
+ * it, or, if no rate does, rate r and the smallest limit that sends f. A link that its drop cuts is at full speed as well. At node N the rate
+ * is 0, and the limit V exactly where f = min(D, P) at full speed, also where it is P that cuts what link N sends; it is lower only where f is
+ * less still. */
 uint32_t gigorchid_convert_words(const uint32_t *corridor, size_t corridor_words,
                                  const uint32_t *demands, size_t demands_words,
                                  const uint32_t *record, size_t record_words,
@@ -208,17 +232,20 @@ uint32_t gigorchid_normal_words(const uint32_t *corridor, size_t corridor_words,
 
 /* ---- the corridor as a list of nodes: N is their count less one; a count other than 2 to 65 is refused by 1 ---- */
 
-/* The words of a node in a corridor's list, in their order. */
+/* The words of a node in a corridor's list of kind 10, in their order: a link that does not drop has its F and its J in the last two, and not
+ * zeros, which let nothing out of it. */
 struct gigorchid_node {
     uint32_t identifier;
-    uint32_t capacity;       /* F */
-    uint32_t full_speed;     /* V */
-    uint32_t wave_speed;     /* W */
-    uint32_t jam;            /* J */
-    uint32_t ramp_capacity;  /* C */
-    uint32_t queue_limit;    /* L */
-    uint32_t start_vehicles; /* n */
-    uint32_t start_queue;    /* l */
+    uint32_t capacity;         /* F */
+    uint32_t full_speed;       /* V */
+    uint32_t wave_speed;       /* W */
+    uint32_t jam;              /* J */
+    uint32_t ramp_capacity;    /* C */
+    uint32_t queue_limit;      /* L */
+    uint32_t start_vehicles;   /* n */
+    uint32_t start_queue;      /* l */
+    uint32_t dropped_capacity;
+    uint32_t drop_density;
 };
 
 /* As the calls on words, with the same answers. */
@@ -241,10 +268,11 @@ uint32_t gigorchid_normal_nodes(const struct gigorchid_node *corridor, size_t no
 
 /* ---- files to words and back, told N and K ----
  *
- * A reader answers 1 for a bad N or K or a wrong count of words, which for demands is any but that of the file's kind; then 14, then 15, 16,
- * 17 block by block, then 18, then 1 if the file's own N or K, the first word of a corridor and of demands, is another. A writer answers 1 for
- * a bad N or K, a wrong count of bytes or words, or a list whose own N or K is another; it tests no other word. The count of words of demands
- * tells their kind, and with it the count of bytes. N and K are tested for 1..64 and 1..1,440 even where a list does not depend on them. */
+ * A reader answers 1 for a bad N or K or a wrong count of words, which for a corridor and for demands is any but that of the file's kind; then
+ * 14, then 15, 16, 17 block by block, then 18, then 1 if the file's own N or K, the first word of a corridor and of demands, is another. A
+ * writer answers 1 for a bad N or K, a wrong count of bytes or words, or a list whose own N or K is another; it tests no other word. The count
+ * of words of a corridor or of demands tells its kind, and with it the count of bytes. N and K are tested for 1..64 and 1..1,440 even where a
+ * list does not depend on them. */
 uint32_t gigorchid_read_corridor(uint32_t n, uint32_t k, const uint8_t *file, size_t bytes, uint32_t *words, size_t count);
 uint32_t gigorchid_read_demands(uint32_t n, uint32_t k, const uint8_t *file, size_t bytes, uint32_t *words, size_t count);
 uint32_t gigorchid_read_record(uint32_t n, uint32_t k, const uint8_t *file, size_t bytes, uint32_t *words, size_t count);
@@ -259,10 +287,10 @@ uint32_t gigorchid_write_plan(uint32_t n, uint32_t k, const uint32_t *words, siz
  * They answer 1 for a bad N or K or a wrong count of plan bytes, then what the readers of corridor, demands and record answer in turn, then
  * what the call on words answers. So 1 and 14 to 18 do not tell which file they speak of. To learn it:
  *   - See that N is 1..64, K is 1..1,440 and plan_bytes is as below; else that is the fault.
- *   - Call the three readers in this order, the second with gigorchid_demands_words of its file: the first that refuses has the file, and its
- *     answer is the same number (examples/host.c does so).
+ *   - Call the three readers in this order, the first two with gigorchid_corridor_words and gigorchid_demands_words of their files: the first
+ *     that refuses has the file, and its answer is the same number (examples/host.c does so).
  *   - Of 1 and 14, N or K itself may be wrong: compare them with bytes 8..11 of the corridor's and of the demands' file. So may the first word
- *     of the demands, which chooses their kind. */
+ *     of either, which chooses its kind. */
 uint32_t gigorchid_check_files(uint32_t n, uint32_t k,
                                const uint8_t *corridor, size_t corridor_bytes,
                                const uint8_t *demands, size_t demands_bytes,
