@@ -91,12 +91,15 @@ fn next_in(row: &[u32], at: usize) -> usize {
     0
 }
 
-// A word of a row that stands at a place of a list. Nine words are a node's: its identifier is its place, as no other's is.
+// Whether a row is of a node's length, in a corridor of kind 1 or of kind 10.
+fn is_node(row: &[u32]) -> bool {
+    row.len() == 9 || row.len() == 11
+}
+
+// A word of a row that stands at a place of a list. In a node's row the first, its identifier, is its place, as no other's is.
 fn repeated(row: &[u32], at: usize, place: usize) -> u32 {
-    if row.len() == 9 {
-        if at == 0 {
-            return (place % 4294967296) as u32;
-        }
+    if is_node(row) && at == 0 {
+        return (place % 4294967296) as u32;
     }
     word(row, at)
 }

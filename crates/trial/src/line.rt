@@ -116,7 +116,7 @@ pub fn change(list: &mut [u32], letter: u8, told: &[u8]) -> usize {
 
 // A list becomes the numbers told, with those after a star again and again, or zeros after them. Answers how many come once.
 pub fn put(list: &mut [u32], told: &[u8]) -> usize {
-    let mut row = [0u32; 10];
+    let mut row = [0u32; 11];
     let star = find(told, Sought::Byte(b'*'));
     let once = change(list, b' ', content::bytes(told, star));
     let width = change(&mut row, b' ', content::bytes_from(told, star));

@@ -13,9 +13,9 @@ pub fn case(section: &[u8], told: &[u8]) {
     given(section, told, &lengths);
 }
 
-// Demands have room for kind 5 with K = 1,441 at N = 1.
+// A corridor has room for kind 10 with N = 65, demands for kind 5 with K = 1,441 at N = 1.
 fn given(section: &[u8], told: &[u8], lengths: &[u32]) {
-    let mut corridor = [0u32; 600];
+    let mut corridor = [0u32; 727];
     let mut demands = [0u32; 7206];
     let mut plan = [0u32; 5764];
     line::make(&mut corridor, b'c', section);
