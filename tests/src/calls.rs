@@ -1,9 +1,10 @@
-//! The product's calls as traits, so that the model, a wrong variant of it and the host all fit
-//! the same comparisons; and three ways to make a call: on nodes, on files, and on a small stack.
+//! The product's calls as traits, so that the model, a wrong variant of it and the host all fit the
+//! same comparisons; and four ways to make a call: on nodes, on files, on other lists than those
+//! given, and on a small stack.
 
 use crate::model::files::file_bytes;
-use crate::model::lists::{corridor_of, Node, NODE_WORDS};
-use crate::model::{self, answer, List, Rules};
+use crate::model::lists::{corridor_of, Node};
+use crate::model::{self, answer, Kind, List, Rules};
 use crate::stack::{stack_left, SMALL_STACK};
 
 /// The calls on word lists. Each answers row × 65,536 + node × 256 + number, 0 for accepted.
@@ -86,6 +87,11 @@ impl<R: Rules> WordCalls for R {
     }
 }
 
+/// The corridor that a list of nodes stands for: each node carries the words of kind 10.
+fn as_words(nodes: &[Node]) -> Vec<u32> {
+    corridor_of(Kind::CapacityDrop, nodes)
+}
+
 impl<R: Rules> NodeCalls for R {
     fn simulate_nodes(
         &self,
@@ -94,11 +100,11 @@ impl<R: Rules> NodeCalls for R {
         plan: &[u32],
         record: &mut [u32],
     ) -> u32 {
-        self.simulate(&corridor_of(corridor), demands, plan, record)
+        self.simulate(&as_words(corridor), demands, plan, record)
     }
 
     fn check_nodes(&self, corridor: &[Node], demands: &[u32], record: &[u32]) -> u32 {
-        self.check(&corridor_of(corridor), demands, record)
+        self.check(&as_words(corridor), demands, record)
     }
 
     fn convert_nodes(
@@ -108,7 +114,7 @@ impl<R: Rules> NodeCalls for R {
         record: &[u32],
         plan: &mut [u32],
     ) -> u32 {
-        self.convert(&corridor_of(corridor), demands, record, plan)
+        self.convert(&as_words(corridor), demands, record, plan)
     }
 
     fn normal_nodes(
@@ -119,7 +125,7 @@ impl<R: Rules> NodeCalls for R {
         work: &mut [u32],
         normal: &mut [u32],
     ) -> u32 {
-        self.normal(&corridor_of(corridor), demands, plan, work, normal)
+        self.normal(&as_words(corridor), demands, plan, work, normal)
     }
 }
 
@@ -150,10 +156,15 @@ impl<R: Rules> Program for R {
 /// Makes calls on nodes from word lists. The list's own N falls away; its nodes count.
 pub struct ByNodes<C>(pub C);
 
-/// The whole nodes of a corridor's words, sound or not.
+/// The whole nodes of a corridor's words, sound or not, of the kind whose length is nearer to that
+/// of the words.
 fn nodes_of(corridor: &[u32]) -> Vec<Node> {
-    let words = corridor.get(1..).unwrap_or(&[]);
-    words.chunks_exact(NODE_WORDS).map(Node::from_words).collect()
+    let (&n, words) = corridor.split_first().unwrap_or((&0, &[]));
+    let kind = match words.len() < 10 * (n as usize + 1) {
+        true => Kind::Corridor,
+        false => Kind::CapacityDrop,
+    };
+    words.chunks_exact(kind.node_words()).map(Node::from_words).collect()
 }
 
 impl<C: NodeCalls> WordCalls for ByNodes<C> {
@@ -237,6 +248,41 @@ impl<C: FileCalls + WordCalls> WordCalls for ByFiles<C> {
         normal: &mut [u32],
     ) -> u32 {
         self.0.normal(corridor, demands, plan, work, normal)
+    }
+}
+
+/// Makes each call with the corridor and the demands that a function makes of those given.
+pub struct Instead<'a, F> {
+    pub calls: &'a dyn WordCalls,
+    pub lists: F,
+}
+
+impl<F: Fn(&[u32], &[u32]) -> [Vec<u32>; 2] + Sync> WordCalls for Instead<'_, F> {
+    fn simulate(&self, corridor: &[u32], demands: &[u32], plan: &[u32], record: &mut [u32]) -> u32 {
+        let [corridor, demands] = (self.lists)(corridor, demands);
+        self.calls.simulate(&corridor, &demands, plan, record)
+    }
+
+    fn check(&self, corridor: &[u32], demands: &[u32], record: &[u32]) -> u32 {
+        let [corridor, demands] = (self.lists)(corridor, demands);
+        self.calls.check(&corridor, &demands, record)
+    }
+
+    fn convert(&self, corridor: &[u32], demands: &[u32], record: &[u32], plan: &mut [u32]) -> u32 {
+        let [corridor, demands] = (self.lists)(corridor, demands);
+        self.calls.convert(&corridor, &demands, record, plan)
+    }
+
+    fn normal(
+        &self,
+        corridor: &[u32],
+        demands: &[u32],
+        plan: &[u32],
+        work: &mut [u32],
+        normal: &mut [u32],
+    ) -> u32 {
+        let [corridor, demands] = (self.lists)(corridor, demands);
+        self.calls.normal(&corridor, &demands, plan, work, normal)
     }
 }
 

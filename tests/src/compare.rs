@@ -8,7 +8,6 @@ use crate::model::{Input, Quick, Size};
 use crate::random::files::{FileCase, ThreeFiles};
 use crate::random::sound::WordCase;
 use crate::random::Random;
-use crate::tally::kinds::{kind_of_demands, CALLS_BY_KIND, CALLS_ON_FILES_BY_KIND};
 use crate::tally::Tally;
 
 /// Words or bytes before and after each lent list.
@@ -99,22 +98,22 @@ pub fn compare_words(
     let (answer, _) = same_call("check", sides, [0, 0], |side, _: &mut [u32], _| {
         side.check(corridor, demands, record)
     })?;
-    tally.answer_on_lists(1, case.demands_kind, answer);
+    tally.answer_on_lists(1, case.kinds, answer);
     if let Ok(input) = Input::new(corridor, demands) {
-        tally.downstream_refusals(&input, answer);
+        tally.refusals_by_kind(&input, record, answer);
     }
     let lengths = [case.lent_plan, 0];
     let (answer, [mut converted, _]) = same_call("convert", sides, lengths, |side, out, _| {
         side.convert(corridor, demands, record, out)
     })?;
-    tally.answer_on_lists(2, case.demands_kind, answer);
+    tally.answer_on_lists(2, case.kinds, answer);
     tally_settings(case, answer, record, converted.list(), tally);
     let lengths = [case.lent_record, case.lent_plan];
     let (answer, [mut work, mut normal]) =
         same_call("normal", sides, lengths, |side, work, out| {
             side.normal(corridor, demands, plan, work, out)
         })?;
-    tally.answer_on_lists(3, case.demands_kind, answer);
+    tally.answer_on_lists(3, case.kinds, answer);
     tally_settings(case, answer, work.list(), normal.list(), tally);
     Ok(())
 }
@@ -129,7 +128,7 @@ fn compare_simulate(
     let (answer, [mut record, _]) = same_call("simulate", sides, lengths, |side, out, _| {
         side.simulate(corridor, demands, plan, out)
     })?;
-    tally.answer_on_lists(0, case.demands_kind, answer);
+    tally.answer_on_lists(0, case.kinds, answer);
     if let (0, Ok(input)) = (answer, Input::new(corridor, demands)) {
         tally.happenings(&input, plan, record.list());
     }
@@ -143,11 +142,23 @@ fn tally_settings(case: &WordCase, answer: u32, record: &[u32], plan: &[u32], ta
     }
 }
 
-/// Names of the readers and writers for messages and counts, by kind.
-pub const READERS: [&str; 5] =
-    ["read corridor", "read demands", "read record", "read plan", "read demands of kind 5"];
-pub const WRITERS: [&str; 5] =
-    ["write corridor", "write demands", "write record", "write plan", "write demands of kind 5"];
+/// Names of the readers and writers for messages and counts, by the kind's place among all.
+pub const READERS: [&str; 6] = [
+    "read corridor",
+    "read demands",
+    "read record",
+    "read plan",
+    "read demands of kind 5",
+    "read corridor of kind 10",
+];
+pub const WRITERS: [&str; 6] = [
+    "write corridor",
+    "write demands",
+    "write record",
+    "write plan",
+    "write demands of kind 5",
+    "write corridor of kind 10",
+];
 
 /// The reader and the writer of one list.
 pub fn compare_file(
@@ -156,7 +167,7 @@ pub fn compare_file(
     tally: &mut Tally,
 ) -> Result<(), String> {
     let FileCase { kind, n, k, file, words, lent_words, lent_file } = case;
-    let (reader, writer) = (READERS[*kind as usize - 1], WRITERS[*kind as usize - 1]);
+    let (reader, writer) = (READERS[kind.place()], WRITERS[kind.place()]);
     let (answer, _) = same_call(reader, sides, [*lent_words, 0], |side, out: &mut [u32], _| {
         side.read(kind.list(), *n, *k, file, out)
     })?;
@@ -179,21 +190,18 @@ pub fn compare_three(
     tally: &mut Tally,
 ) -> Result<(), String> {
     let (n, k) = (case.n, case.k);
-    let by_kind = CALLS_ON_FILES_BY_KIND[kind_of_demands(&case.demands)];
     let (answer, _) = same_call("check files", sides, [0, 0], |side, _: &mut [u8], _| {
         side.check_files(n, k, case.files())
     })?;
-    tally.answer("check files", answer);
-    tally.answer(by_kind[0], answer);
+    tally.answer_on_files(0, case.files(), answer);
     if let Ok(size) = Size::new(n, k) {
-        tally.downstream_refusals_of_files(size, case.files(), answer);
+        tally.refusals_of_files_by_kind(size, case.files(), answer);
     }
     let lengths = [case.lent_plan_file, 0];
     let (answer, _) = same_call("convert files", sides, lengths, |side, out: &mut [u8], _| {
         side.convert_files(n, k, case.files(), out)
     })?;
-    tally.answer("convert files", answer);
-    tally.answer(by_kind[1], answer);
+    tally.answer_on_files(1, case.files(), answer);
     Ok(())
 }
 
@@ -212,8 +220,8 @@ pub fn compare_program(
     let answer = printed_answer(&text);
     tally.answer("normal", answer);
     if let Ok((size, files)) = three_files::<Quick>(input) {
-        tally.answer(CALLS_BY_KIND[kind_of_demands(files[1])][3], answer);
-        tally.downstream_refusals_of_files(size, files, answer);
+        tally.answer_of_program(files, answer);
+        tally.refusals_of_files_by_kind(size, files, answer);
     }
     tally.add("held lines", 0, text.lines().filter(|line| line.ends_with(" H")).count() as u64);
     tally.add("full lines", 0, text.lines().filter(|line| line.ends_with(" F")).count() as u64);
@@ -254,7 +262,7 @@ pub fn compare_limit_on_words(sides: [&dyn WordCalls; 2], case: &LimitCase) -> R
 /// Each reader, each writer and the two calls on files at a limit of N or K.
 pub fn compare_limit_on_files(sides: [&dyn FileCalls; 2], case: &LimitCase) -> Result<(), String> {
     let files = case.file_cases();
-    let kinds = files.iter().map(|file| file.kind as usize - 1);
+    let kinds = files.iter().map(|file| file.kind.place());
     let calls = kinds.flat_map(|kind| [READERS[kind], WRITERS[kind]]).chain(CALLS_ON_FILES);
     compare_limit(case, &calls.collect::<Vec<_>>(), |tally| {
         files.iter().try_for_each(|file| compare_file(sides, file, tally))?;

@@ -5,10 +5,11 @@
 use crate::calls::WordCalls;
 use crate::model::lists::{corridor_of, Node};
 use crate::model::simulate::entry;
-use crate::model::{check, Input, Kind, Quick, Rules, Size};
+use crate::model::{check, Input, Kind, Kinds, Quick, Rules, Size};
 use crate::random::records::record_of_flows;
 use crate::random::Random;
-use crate::tally::kinds::WHERE_LESS_MAY_LEAVE;
+use crate::tally::capacity_drop::WHERE_DROPPED;
+use crate::tally::downstream::WHERE_LESS_MAY_LEAVE;
 use crate::tally::{Tally, SETTINGS};
 use std::collections::{BTreeMap, BTreeSet};
 
@@ -52,6 +53,7 @@ fn tiny_node(random: &mut Random, i: usize, size: Size, links: Links, most: u64)
     };
     let ramp = u32::from(i < size.links);
     let queue_limit = random.within(0, 5) + random.pick(&[0, 20, 20]);
+    let beside = (link[4] + random.pick(&[0, 1, 1, 2])).saturating_sub(1);
     Node {
         identifier: 100 + i as u32,
         capacity: link[0],
@@ -62,11 +64,13 @@ fn tiny_node(random: &mut Random, i: usize, size: Size, links: Links, most: u64)
         queue_limit: ramp * queue_limit as u32,
         start_vehicles: link[4],
         start_queue: ramp * random.within(0, queue_limit.min(5)) as u32,
+        dropped_capacity: random.within(0, link[0].into()) as u32,
+        drop_density: random.pick(&[0, beside, beside, beside]).min(link[3]),
     }
 }
 
-/// Demands of kind 5 have words that often bind.
-fn tiny(random: &mut Random, size: Size, demands_kind: Kind, (links, most): (Links, u64)) -> Tiny {
+/// Demands of kind 5 have words that often bind, links of kind 10 densities that often do.
+fn tiny(random: &mut Random, size: Size, kinds: Kinds, (links, most): (Links, u64)) -> Tiny {
     let all = 0..size.nodes();
     let nodes: Vec<Node> = all.map(|i| tiny_node(random, i, size, links, most)).collect();
     let mut demands = vec![size.steps as u32];
@@ -77,10 +81,10 @@ fn tiny(random: &mut Random, size: Size, demands_kind: Kind, (links, most): (Lin
             demands.extend([arrivals, split * u32::from(i > 0 && i < size.links)]);
         }
     }
-    if demands_kind == Kind::Downstream {
+    if kinds.demands == Kind::Downstream {
         demands.extend((0..size.steps).map(|_| random.within(0, most) as u32));
     }
-    Tiny { corridor: corridor_of(&nodes), demands }
+    Tiny { corridor: corridor_of(kinds.corridor, &nodes), demands }
 }
 
 /// Calls `visit` with every list whose word j is one of `choices[j]`.
@@ -169,7 +173,8 @@ impl<'a> Asked<'a> {
         let mut corridor = self.corridor.to_vec();
         for j in 0..self.input.size.nodes() {
             let now = self.input.size.record_place(k, j);
-            corridor[1 + 9 * j + 7..1 + 9 * j + 9].copy_from_slice(&record[now..now + 2]);
+            let start = 1 + self.input.corridor_kind.node_words() * j + 7;
+            corridor[start..start + 2].copy_from_slice(&record[now..now + 2]);
         }
         let one_step = Size { steps: 1, ..self.input.size };
         let demands = self.demands_of_step(k);
@@ -284,20 +289,19 @@ fn try_corridor(asked: &Asked, tally: &mut Tally) -> [u64; 2] {
     counts
 }
 
-/// A number of corridors of one size, one kind of demands and one kind of links.
+/// A number of corridors of one size and one kind of links, with all kinds of lists in turn.
 struct Batch {
     count: usize,
     size: Size,
-    demands_kind: Kind,
     links: (Links, u64),
 }
 
 fn try_corridors(calls: &dyn WordCalls, seed: u64, batch: Batch) -> Tally {
-    let Batch { count, size, demands_kind, links } = batch;
+    let Batch { count, size, links } = batch;
     let mut random = Random::new(seed);
     let mut tally = Tally::default();
-    for _ in 0..count {
-        let tiny = tiny(&mut random, size, demands_kind, links);
+    for kinds in Kinds::all().cycle().take(count) {
+        let tiny = tiny(&mut random, size, kinds, links);
         let [accepted, refused] = try_corridor(&Asked::new(calls, &tiny), &mut tally);
         tally.add("proposals accepted", 0, accepted);
         tally.add("proposals refused", 0, refused);
@@ -314,27 +318,26 @@ fn try_corridors(calls: &dyn WordCalls, seed: u64, batch: Batch) -> Tally {
 }
 
 /// Demand 3 of a side, on corridors of all these sizes made from that seed, one in `part` of them,
-/// as many with demands of kind 5 as with those of kind 2.
+/// as many of each kind of corridor and demands.
 pub fn assert_demand_three(calls: &dyn WordCalls, seed: u64, part: usize) {
     let batches = [
-        (500, (1, 1), (Links::Slow, 4)),
-        (100, (1, 2), (Links::Slow, 4)),
-        (1_000, (2, 1), (Links::Slow, 4)),
-        (60, (2, 2), (Links::Slow, 2)),
-        (300, (3, 1), (Links::Slow, 2)),
-        (1_000, (2, 1), (Links::Short, 4)),
-        (300, (3, 1), (Links::Short, 2)),
+        (1_000, (1, 1), (Links::Slow, 4)),
+        (200, (1, 2), (Links::Slow, 4)),
+        (2_000, (2, 1), (Links::Slow, 4)),
+        (120, (2, 2), (Links::Slow, 2)),
+        (600, (3, 1), (Links::Slow, 2)),
+        (2_000, (2, 1), (Links::Short, 4)),
+        (600, (3, 1), (Links::Short, 2)),
     ];
-    let mut less_may_leave = [0; 2];
-    for (demands_kind, first) in [(Kind::Demands, seed + 1), (Kind::Downstream, seed + 11)] {
-        for (seed, (count, (n, k), links)) in (first..).zip(batches) {
-            let (count, size) = (count / part, Size { links: n, steps: k });
-            let tally = try_corridors(calls, seed, Batch { count, size, demands_kind, links });
-            for (count, name) in less_may_leave.iter_mut().zip(WHERE_LESS_MAY_LEAVE) {
-                *count += tally.count(name, 0);
-            }
+    let names = [WHERE_LESS_MAY_LEAVE, WHERE_DROPPED].concat();
+    let mut seen = vec![0; names.len()];
+    for (seed, (count, (n, k), links)) in (seed + 1..).zip(batches) {
+        let (count, size) = (count / part, Size { links: n, steps: k });
+        let tally = try_corridors(calls, seed, Batch { count, size, links });
+        for (count, name) in seen.iter_mut().zip(&names) {
+            *count += tally.count(name, 0);
         }
     }
-    let enough = less_may_leave.iter().all(|&count| count > 1_000 / part as u64);
-    assert!(enough, "full and held where less may leave: {less_may_leave:?}");
+    let enough = seen.iter().all(|&count| count > 1_000 / part as u64);
+    assert!(enough, "{names:?}: {seen:?}");
 }

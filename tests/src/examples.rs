@@ -1,14 +1,16 @@
-//! The worked cases of document 01, the examples of its refusal table and, in a module of their own,
-//! the like for what may leave link N, as tests of any side: the model, and the host once there is
-//! one.
+//! The worked cases of document 01, the examples of its refusal table and, in modules of their own,
+//! the like for what may leave link N and for the capacity drop, as tests of any side: the model,
+//! and the host once there is one.
 
+pub mod capacity_drop;
 pub mod downstream;
 
 use crate::calls::{FileCalls, Program, WordCalls};
 use crate::model::files::{words_of, CHECK};
-use crate::model::{Kind, List, Size};
-use crate::random::files::{change_block, file_of, ThreeFiles};
+use crate::model::{Kind, Kinds, List, Size};
+use crate::random::files::{change_block, file_of, name_kind, ThreeFiles};
 use crate::random::sound::WordCase;
+use capacity_drop::{b_drop, drop_proposed, without_drop};
 use downstream::{b_downstream, downstream_proposed};
 
 /// Places in B's lists: the words of its nodes, and those of node 1 in the demands.
@@ -27,7 +29,7 @@ const SPLIT_1: usize = 4;
 /// B, the plan of case 1 and its record.
 pub fn b() -> WordCase {
     WordCase {
-        demands_kind: Kind::Demands,
+        kinds: Kinds::OLDEST,
         corridor: [
             &[2][..],
             &[10, 0, 0, 0, 0, 100, 1_000, 0, 0],
@@ -60,9 +62,10 @@ pub fn refused(number: u32, row: u32, node: u32) -> u32 {
 /// Proposes flows: f and r of node 1, f of node 2. The rest of the record follows, written out
 /// here without the model.
 pub fn propose(case: &mut WordCase, flow_1: u32, ramp_1: u32, flow_2: u32) {
-    let (corridor, demands) = (&case.corridor, &case.demands);
-    let (vehicles_1, queue_1) = (corridor[NODE_1 + VEHICLES], corridor[NODE_1 + QUEUE]);
-    let vehicles_2 = corridor[NODE_2 + VEHICLES];
+    let width = case.kinds.corridor.node_words();
+    let word = |node: usize, word: usize| case.corridor[1 + width * node + word];
+    let (vehicles_1, queue_1) = (word(1, VEHICLES), word(1, QUEUE));
+    let (vehicles_2, demands) = (word(2, VEHICLES), &case.demands);
     let exit = u64::from(flow_1) * u64::from(demands[SPLIT_1]) / 65_536;
     let next_1 = vehicles_1.wrapping_sub(flow_1);
     let next_2 = vehicles_2 + (flow_1 - exit as u32) + ramp_1 - flow_2;
@@ -104,6 +107,9 @@ pub fn assert_word_examples(calls: &dyn WordCalls) {
     downstream::assert_cases(calls);
     downstream::assert_refusals(calls);
     downstream::assert_word_in_its_step(calls);
+    capacity_drop::assert_cases(calls);
+    capacity_drop::assert_refusals(calls);
+    capacity_drop::assert_recovery(calls);
 }
 
 /// Case 1, and that rates 60 and 50 have one record and so one normal form.
@@ -143,6 +149,25 @@ fn assert_conversions(calls: &dyn WordCalls) {
         let mut record = vec![7; 26];
         assert_eq!(calls.simulate(&case.corridor, &case.demands, &plan, &mut record), 0);
         assert_eq!(record, case.record, "{name}: the plan has the record");
+    }
+}
+
+/// B with another corridor or other demands whose record has rates 0 and 50 and full speed at nodes
+/// 0 and 1, and that limit at node 2: all four calls.
+fn assert_limit_2(calls: &dyn WordCalls, name: &str, case: &WordCase, limit_2: u32) {
+    let WordCase { corridor, demands, record, .. } = case;
+    let mut plan = vec![7; 6];
+    assert_eq!(calls.check(corridor, demands, record), 0, "{name}");
+    assert_eq!(calls.convert(corridor, demands, record, &mut plan), 0, "{name}");
+    assert_eq!(plan, [0, 0, 50, 32_768, 0, limit_2], "{name}");
+    for rate in [60, 50] {
+        let given = [100, 0, rate, 32_768, 0, limit_2];
+        let (mut work, mut normal) = (vec![7; 26], vec![7; 6]);
+        assert_eq!(calls.simulate(corridor, demands, &given, &mut work), 0);
+        assert_eq!(work, *record, "{name}, rate {rate}");
+        work.fill(7);
+        assert_eq!(calls.normal(corridor, demands, &given, &mut work, &mut normal), 0);
+        assert_eq!((&work, &normal), (record, &plan), "{name}, rate {rate}");
     }
 }
 
@@ -255,7 +280,10 @@ pub fn assert_file_examples(calls: &dyn FileCalls) {
     assert_check_word(calls);
     assert_file_refusals(calls);
     assert_calls_on_files(calls);
-    downstream::assert_demands_of_both_kinds(calls);
+    let corridors = [b().corridor, b_drop().corridor];
+    assert_files_of_both_kinds(calls, List::Corridor, corridors, Kind::Demands);
+    let demands = [b().demands, b_downstream().demands];
+    assert_files_of_both_kinds(calls, List::Demands, demands, Kind::Corridor);
 }
 
 /// Case 10: an otherwise zero block of kind 1 and number 1 has check 4. Such is the second block
@@ -297,16 +325,61 @@ fn assert_file_refusals(calls: &dyn FileCalls) {
     }
 }
 
-/// Cases 1, 2, 5 and 11 to 13 through the C host's calls on files.
-fn assert_calls_on_files(calls: &dyn FileCalls) {
-    let full = file_of(Kind::Plan, &[0, 0, 50, 32_768, 0, 32_768]);
-    let held = file_of(Kind::Plan, &[0, 0, 50, 32_768, 0, 13_108]);
+/// The file says which kind it is, whatever list is lent; a list of the other kind's length is a
+/// wrong one, before anything else of the file is looked at. The length of a list to write tells
+/// its kind. `other` is a kind of another list.
+fn assert_files_of_both_kinds(
+    calls: &dyn FileCalls,
+    list: List,
+    lists: [Vec<u32>; 2],
+    other: Kind,
+) {
+    let files = [0, 1].map(|kind| file_of(list.kinds()[kind], &lists[kind]));
+    let said = |file: &[u8], kind: u32| {
+        let mut file = file.to_vec();
+        name_kind(&mut file, kind, true);
+        file
+    };
+    let [older, newer] = &files;
+    let bad_length = refused(1, 0, 0);
     let rows = [
-        (b(), 0, full.clone()),
+        (older.clone(), [0, bad_length]),
+        (newer.clone(), [bad_length, 0]),
+        (said(older, 6), [refused(16, 0, 0), bad_length]),
+        (said(older, other as u32), [refused(16, 0, 0), bad_length]),
+        (said(newer, list.kinds()[0] as u32), [refused(18, 0, 0), bad_length]),
+        (newer[..511].to_vec(), [bad_length, refused(14, 0, 0)]),
+        (newer[..4].to_vec(), [bad_length, refused(14, 0, 0)]),
+        (newer[..3].to_vec(), [refused(14, 0, 0), bad_length]),
+        (vec![], [refused(14, 0, 0), bad_length]),
+    ];
+    for (file, answers) in rows {
+        for (words, answer) in lists.iter().zip(answers) {
+            let mut read = vec![7; words.len()];
+            assert_eq!(calls.read(list, 2, 1, &file, &mut read), answer);
+            assert_eq!(read, if answer == 0 { words.clone() } else { vec![7; words.len()] });
+        }
+    }
+    for (words, file) in lists.iter().zip(&files) {
+        let mut written = vec![7; 512];
+        assert_eq!(calls.write(list, 2, 1, words, &mut written), 0);
+        assert_eq!(written, *file);
+    }
+}
+
+/// Cases 1, 2, 5 and 11 to 15 through the C host's calls on files, and case 14's record without the
+/// drop.
+fn assert_calls_on_files(calls: &dyn FileCalls) {
+    let plan = |limit_2| file_of(Kind::Plan, &[0, 0, 50, 32_768, 0, limit_2]);
+    let rows = [
+        (b(), 0, plan(32_768)),
         (proposed(100, 26), refused(9, 0, 1), vec![7; 512]),
-        (b_downstream(), 0, full),
-        (downstream_proposed(40), 0, held),
+        (b_downstream(), 0, plan(32_768)),
+        (downstream_proposed(40), 0, plan(13_108)),
         (downstream_proposed(71), refused(9, 0, 2), vec![7; 512]),
+        (b_drop(), 0, plan(32_768)),
+        (without_drop(b_drop()), 0, plan(26_215)),
+        (drop_proposed(81), refused(8, 0, 2), vec![7; 512]),
     ];
     for (case, answer, plan_file) in rows {
         let three = ThreeFiles::of_case(b_size(), &case);
@@ -325,6 +398,8 @@ pub fn assert_program_examples(program: &dyn Program) {
     let full = "PLAN 1 3 370\n0 10 0 0 F\n0 20 50 32768 F\n0 30 0 32768 F\n";
     let full_downstream = "PLAN 1 3 400\n0 10 0 0 F\n0 20 50 32768 F\n0 30 0 32768 F\n";
     let held_downstream = "PLAN 1 3 430\n0 10 0 0 F\n0 20 50 32768 F\n0 30 0 13108 H\n";
+    let full_drop = "PLAN 1 3 390\n0 10 0 0 F\n0 20 50 32768 F\n0 30 0 32768 F\n";
+    let held_without = "PLAN 1 3 390\n0 10 0 0 F\n0 20 50 32768 F\n0 30 0 26215 H\n";
     let rows = [
         (sound.clone(), full),
         (input(&proposed(60, 50)), held),
@@ -332,6 +407,9 @@ pub fn assert_program_examples(program: &dyn Program) {
         (input(&b_downstream()), full_downstream),
         (input(&downstream_proposed(40)), held_downstream),
         (input(&downstream_proposed(71)), "REFUSED 9 0 2\n"),
+        (input(&b_drop()), full_drop),
+        (input(&without_drop(b_drop())), held_without),
+        (input(&drop_proposed(81)), "REFUSED 8 0 2\n"),
         (sound[..1_535].to_vec(), "REFUSED 14 0 0\n"),
         (vec![], "REFUSED 14 0 0\n"),
         (vec![0; 12], "REFUSED 1 0 0\n"),

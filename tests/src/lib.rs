@@ -2,7 +2,9 @@
 //! and comparisons of every exported call with the model, word for word.
 
 pub mod calls;
+pub mod capacity_drop;
 pub mod compare;
+pub mod completed;
 pub mod demand_three;
 pub mod downstream;
 pub mod examples;

@@ -2,7 +2,7 @@
 //! amounts, and N and K on either side of their limits while all else is sound.
 
 use crate::model::lists::{corridor_of, Node};
-use crate::model::{Input, Kind, List, Size, MOST_QUEUE_LIMIT, WHOLE};
+use crate::model::{Input, Kind, Kinds, Size, MOST_QUEUE_LIMIT, WHOLE};
 use crate::random::files::{FileCase, ThreeFiles};
 use crate::random::records::record_of_plan;
 use crate::random::sound::WordCase;
@@ -14,8 +14,9 @@ const MOST: u32 = WHOLE as u32;
 /// its greatest. With jammed links and full queues nothing moves but at the end, and every queue
 /// passes its limit; with half the vehicles and no queues products of 2^32 occur and every queue
 /// stays within its limit. With demands of kind 5 an eighth of the most may leave link N in every
-/// other step, and the most of all in those between.
-pub fn greatest(size: Size, demands_kind: Kind, jammed: bool) -> WordCase {
+/// other step, and the most of all in those between; with a corridor of kind 10 each link with more
+/// than half the vehicles discharges half of the most.
+pub fn greatest(size: Size, kinds: Kinds, jammed: bool) -> WordCase {
     let nodes: Vec<Node> = (0..size.nodes()).map(|i| greatest_node(size, i, jammed)).collect();
     let mut demands = vec![size.steps as u32];
     let mut plan = vec![];
@@ -27,13 +28,14 @@ pub fn greatest(size: Size, demands_kind: Kind, jammed: bool) -> WordCase {
             plan.extend([ramp * MOST, u32::from(i > 0) * MOST]);
         }
     }
-    if demands_kind == Kind::Downstream {
+    if kinds.demands == Kind::Downstream {
         demands.extend((0..size.steps).map(|k| [MOST / 8, MOST][k % 2]));
     }
-    let corridor = corridor_of(&nodes);
-    let record = record_of_plan(&Input::of_size(size, &corridor, &demands), &plan);
+    let corridor = corridor_of(kinds.corridor, &nodes);
+    let input = Input::of_size(size, kinds.corridor, &corridor, &demands);
+    let record = record_of_plan(&input, &plan);
     let (lent_record, lent_plan) = (size.record(), size.plan());
-    WordCase { demands_kind, corridor, demands, plan, record, lent_record, lent_plan }
+    WordCase { kinds, corridor, demands, plan, record, lent_record, lent_plan }
 }
 
 fn greatest_node(size: Size, i: usize, jammed: bool) -> Node {
@@ -48,6 +50,8 @@ fn greatest_node(size: Size, i: usize, jammed: bool) -> Node {
         queue_limit: ramp * MOST_QUEUE_LIMIT,
         start_vehicles: link * if jammed { MOST } else { MOST / 2 },
         start_queue: if jammed { ramp * MOST_QUEUE_LIMIT } else { 0 },
+        dropped_capacity: link * MOST / 2,
+        drop_density: link * MOST / 2,
     }
 }
 
@@ -60,9 +64,9 @@ pub struct LimitCase {
 }
 
 impl LimitCase {
-    fn of_size(size: Size, demands: Kind) -> LimitCase {
+    fn of_size(size: Size, kinds: Kinds) -> LimitCase {
         let (n, k) = (size.links as u32, size.steps as u32);
-        LimitCase { n, k, lists: greatest(size, demands, false) }
+        LimitCase { n, k, lists: greatest(size, kinds, false) }
     }
 
     pub fn is_within(&self) -> bool {
@@ -89,22 +93,22 @@ fn limit_sizes() -> impl Iterator<Item = Size> {
     links.chain(steps)
 }
 
-/// Those sizes with demands of either kind; and counts so large that lengths in 32 bits wrap round
-/// to small ones.
+/// Those sizes with corridor and demands both of their oldest kind, and both of their newest; and
+/// counts so large that lengths in 32 bits wrap round to small ones.
 pub fn limit_cases() -> impl Iterator<Item = LimitCase> {
-    let of_kind = |&demands: &Kind| {
-        let cases = limit_sizes().map(move |size| LimitCase::of_size(size, demands));
-        cases.chain([no_node(demands)])
+    let of_kinds = |kinds: Kinds| {
+        let cases = limit_sizes().map(move |size| LimitCase::of_size(size, kinds));
+        cases.chain([no_node(kinds)])
     };
-    List::Demands.kinds().iter().flat_map(of_kind).chain([steps_that_wrap_round()])
+    [Kinds::OLDEST, Kinds::NEWEST].into_iter().flat_map(of_kinds).chain([steps_that_wrap_round()])
 }
 
 /// N = 2^32 − 1, for which N + 1 nodes are none at all in 32 bits: the lists of no node.
-fn no_node(demands_kind: Kind) -> LimitCase {
+fn no_node(kinds: Kinds) -> LimitCase {
     let lists = WordCase {
-        demands_kind,
+        kinds,
         corridor: vec![u32::MAX],
-        demands: match demands_kind {
+        demands: match kinds.demands {
             Kind::Downstream => vec![1, MOST],
             _ => vec![1],
         },
@@ -119,7 +123,7 @@ fn no_node(demands_kind: Kind) -> LimitCase {
 /// K = 2^31, for which every length of kind 2's lists is in 32 bits that of K = 0. Kind 5 has no
 /// such K: its length grows by an odd number with each step.
 fn steps_that_wrap_round() -> LimitCase {
-    let mut lists = greatest(Size { links: 5, steps: 0 }, Kind::Demands, false);
+    let mut lists = greatest(Size { links: 5, steps: 0 }, Kinds::OLDEST, false);
     lists.demands[0] = 1 << 31;
     LimitCase { n: 5, k: 1 << 31, lists }
 }

@@ -14,7 +14,7 @@ pub mod simulate;
 pub use check::check;
 pub use convert::{convert, normal, Setting};
 pub use files::{check_files, convert_files, read, write};
-pub use kinds::{Kind, List};
+pub use kinds::{Kind, Kinds, List};
 pub use lists::{Input, Node, Size};
 pub use rules::{NodeStep, Paper, Quick, Rules};
 pub use simulate::simulate;

@@ -1,15 +1,16 @@
 //! What document 01 says of every record, every merge, every held limit and every block, and what
-//! document 02 adds of the flow that may leave link N, stated over what the calls give back: tests
-//! of any side, the model and the host alike.
+//! document 02 adds of the flow that may leave link N and of the capacity drop, stated over what
+//! the calls give back: tests of any side, the model and the host alike.
 
 use crate::calls::{FileCalls, WordCalls};
+use crate::capacity_drop::discharge;
 use crate::compare::Series;
 use crate::examples::refused;
 use crate::model::files::{BLOCK_BYTES, CHECK};
 use crate::model::kinds::KINDS;
 use crate::model::lists::{corridor_of, Node};
 use crate::model::simulate::{entry, inflow};
-use crate::model::{check, Input, NodeStep, Paper, Rules, Size, MOST_QUEUE_LIMIT, WHOLE};
+use crate::model::{check, Input, Kind, NodeStep, Paper, Rules, Size, MOST_QUEUE_LIMIT, WHOLE};
 use crate::random::damage::size;
 use crate::random::files::{any_words, file_case, FileCase};
 use crate::random::records::{allowed_flows, record_of_flows};
@@ -79,13 +80,23 @@ pub fn assert_cost_is_the_sum_over_later_states(calls: &dyn WordCalls) {
 }
 
 /// A node at a step with a ramp as long as any, half of them of capacity 65,536; and, one in four,
-/// node N, which has no ramp, half of them with demands that let it send whatever it can.
+/// node N, which has no ramp, half of them with demands that let it send whatever it can. Half of
+/// the links have a drop, most of these at a density near n or below it.
 pub fn long_ramp(random: &mut Random) -> NodeStep {
+    let (capacity, vehicles) = (random.within(0, WHOLE), random.within(0, WHOLE));
+    let near = (vehicles + random.within(0, 2)).saturating_sub(1).min(WHOLE);
+    let density = [near, random.within(0, vehicles), random.within(0, WHOLE)];
+    let (dropped_capacity, drop_density) = match random.one_in(2) {
+        true => (capacity, WHOLE),
+        false => (random.within(0, capacity), random.pick(&density)),
+    };
     let at = NodeStep {
-        capacity: random.within(0, WHOLE),
+        capacity,
+        dropped_capacity,
+        drop_density,
         full_speed: random.pick(&[WHOLE, WHOLE / 3]),
         ramp_capacity: random.pick(&[WHOLE, 60_000]),
-        vehicles: random.within(0, WHOLE),
+        vehicles,
         queue: random.within(0, 2 * WHOLE),
         arrivals: 0,
         split: random.pick(&[0, WHOLE / 5, WHOLE]),
@@ -99,9 +110,11 @@ pub fn long_ramp(random: &mut Random) -> NodeStep {
     }
 }
 
-/// A corridor of one step in which node 1 is the one given. Where it has a ramp, a next link goes on
-/// from there, empty and with just the capacity to be received; otherwise node 1 is node N.
+/// A corridor of one step in which node 1 is the one given, of kind 1 if its link has no drop.
+/// Where it has a ramp, a next link goes on from there, empty and with just the capacity to be
+/// received; otherwise node 1 is node N.
 struct Alone {
+    node: Node,
     corridor: Vec<u32>,
     demands: Vec<u32>,
     size: Size,
@@ -126,6 +139,8 @@ impl Alone {
             queue_limit: if last { 0 } else { MOST_QUEUE_LIMIT },
             start_vehicles: at.vehicles as u32,
             start_queue: at.queue as u32,
+            dropped_capacity: at.dropped_capacity as u32,
+            drop_density: at.drop_density as u32,
         };
         let mut nodes = vec![Node { identifier: 1, ..nothing }, node];
         let mut demands = vec![1, 0, 0, at.arrivals as u32, at.split as u32];
@@ -140,8 +155,12 @@ impl Alone {
                 demands.extend([0, 0]);
             }
         }
+        let kind = match (at.dropped_capacity, at.drop_density) == (at.capacity, WHOLE) {
+            true => Kind::Corridor,
+            false => Kind::CapacityDrop,
+        };
         let size = Size { links: nodes.len() - 1, steps: 1 };
-        Alone { corridor: corridor_of(&nodes), demands, size }
+        Alone { node, corridor: corridor_of(kind, &nodes), demands, size }
     }
 
     /// f and r that a side gives for a rate and a limit.
@@ -173,8 +192,10 @@ pub fn assert_merge_is_close_and_fits(calls: &dyn WordCalls) {
         let at = long_ramp(&mut random);
         let rate = random.within(0, at.ramp_capacity);
         let limit = random.within(0, at.full_speed);
-        let (flow, ramp_flow) = Alone::new(&at).flows(calls, rate, limit);
-        let sending = (at.vehicles * limit / WHOLE).min(at.capacity);
+        let alone = Alone::new(&at);
+        let (flow, ramp_flow) = alone.flows(calls, rate, limit);
+        let most = discharge(&alone.node, alone.node.start_vehicles);
+        let sending = (at.vehicles * limit / WHOLE).min(most);
         let offer = at.queue.min(at.ramp_capacity).min(rate);
         let through = |flow: u64| flow - flow * at.split / WHOLE;
         let wanted = through(sending) + offer;
@@ -269,7 +290,7 @@ pub fn assert_check_word_sees_any_one_change(calls: &dyn FileCalls) {
         let place = BLOCK_BYTES * block + 4 * random.below(CHECK);
         let old = [0, 1, 2, 3].map(|byte| file[place + byte]);
         let strange = random.strange_word(u32::from_le_bytes(old));
-        let new = random.pick(&[strange, strange, 2, 5]).to_le_bytes();
+        let new = random.pick(&[strange, strange, 2, 5, 1, 10]).to_le_bytes();
         file[place..place + 4].copy_from_slice(&new);
         let said = kind.list().kind_of_file(&file);
         let answer = calls.read(kind.list(), n, k, &file, &mut vec![7; said.words(size)]);

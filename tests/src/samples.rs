@@ -1,6 +1,7 @@
-//! The example files: B's corridor, its demands of both kinds, and the records of some of its worked
-//! cases.
+//! The example files: B's corridor and its demands, of both kinds, and the records of some of its
+//! worked cases.
 
+use crate::examples::capacity_drop::{b_drop, drop_proposed};
 use crate::examples::downstream::{b_downstream, downstream_proposed};
 use crate::examples::{b, propose};
 use crate::model::Kind;
@@ -12,10 +13,10 @@ pub fn folder() -> PathBuf {
     Path::new(env!("CARGO_MANIFEST_DIR")).join("../examples/b")
 }
 
-/// Name and bytes of each. The records of cases 1 and 11 come from their plan, 3 to 6 propose f and
-/// r of node 1, 12 and 13 propose f of node 2.
+/// Name and bytes of each. The records of cases 1, 11 and 14 come from their plan, 3 to 6 propose f
+/// and r of node 1, 12, 13 and 15 propose f of node 2.
 pub fn files() -> Vec<(&'static str, Vec<u8>)> {
-    let (case, downstream) = (b(), b_downstream());
+    let (case, downstream, drop) = (b(), b_downstream(), b_drop());
     let mut files = vec![
         ("corridor.blocks", file_of(Kind::Corridor, &case.corridor)),
         ("demands.blocks", file_of(Kind::Demands, &case.demands)),
@@ -24,6 +25,9 @@ pub fn files() -> Vec<(&'static str, Vec<u8>)> {
         ("case11.blocks", file_of(Kind::Record, &downstream.record)),
         ("case12.blocks", file_of(Kind::Record, &downstream_proposed(40).record)),
         ("case13.blocks", file_of(Kind::Record, &downstream_proposed(71).record)),
+        ("drop.blocks", file_of(Kind::CapacityDrop, &drop.corridor)),
+        ("case14.blocks", file_of(Kind::Record, &drop.record)),
+        ("case15.blocks", file_of(Kind::Record, &drop_proposed(81).record)),
     ];
     let proposals = [
         ("case3.blocks", 60, 50),
@@ -39,13 +43,14 @@ pub fn files() -> Vec<(&'static str, Vec<u8>)> {
     files
 }
 
-/// The corridor, the demands that a case goes with, and its record, out of their files.
+/// The corridor and the demands that a case goes with, and its record, out of their files.
 pub fn input(case: &str) -> [Vec<u8>; 3] {
-    let demands = match case {
-        "case11" | "case12" | "case13" => "downstream",
-        _ => "demands",
+    let (corridor, demands) = match case {
+        "case11" | "case12" | "case13" => ("corridor", "downstream"),
+        "case14" | "case15" => ("drop", "demands"),
+        _ => ("corridor", "demands"),
     };
-    ["corridor", demands, case].map(|name| {
+    [corridor, demands, case].map(|name| {
         let path = folder().join(format!("{name}.blocks"));
         std::fs::read(&path).unwrap_or_else(|error| panic!("{}: {error}", path.display()))
     })

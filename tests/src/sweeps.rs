@@ -63,8 +63,8 @@ fn other_lengths(length: usize) -> [usize; 5] {
     [0, 1, length - 1, length + 1, 2 * length]
 }
 
-/// Calls `visit` with every case in which one list, or one lent list, has another length; the
-/// demands also that of each kind, and those beside it.
+/// Calls `visit` with every case in which one list, or one lent list, has another length; corridor
+/// and demands also that of each kind, and those beside it.
 pub fn each_length_changed(case: &WordCase, mut visit: impl FnMut(&WordCase)) {
     for number in 0..4 {
         for length in other_lengths(list(&mut case.clone(), number).len()) {
@@ -74,10 +74,12 @@ pub fn each_length_changed(case: &WordCase, mut visit: impl FnMut(&WordCase)) {
         }
     }
     let size = Input::new(&case.corridor, &case.demands).expect("a sound case").size;
-    for words in List::Demands.kinds().iter().map(|kind| kind.words(size)) {
+    let kinds = [List::Corridor, List::Demands].into_iter().flat_map(|list| list.kinds());
+    for kind in kinds {
+        let words = kind.words(size);
         for length in words - 1..=words + 1 {
             let mut changed = case.clone();
-            changed.demands.resize(length, 0);
+            list(&mut changed, kind.list() as usize).resize(length, 0);
             visit(&changed);
         }
     }
@@ -104,7 +106,7 @@ pub fn each_file_word_changed(size: Size, mut visit: impl FnMut(&FileCase)) {
         let case = counting_file(kind, size);
         for block in 0..case.file.len() / BLOCK_BYTES {
             for place in 0..=CHECK {
-                for word in [0, 1, 2, 3, 4, 5, u32::MAX] {
+                for word in [0, 1, 2, 3, 4, 5, 10, u32::MAX] {
                     let mut changed = case.clone();
                     change_block(&mut changed.file, block, place, |_| word);
                     visit(&changed);
@@ -117,34 +119,42 @@ pub fn each_file_word_changed(size: Size, mut visit: impl FnMut(&FileCase)) {
     }
 }
 
-/// Calls `visit` with files of both kinds of demands that say in their first block, or in all, that
-/// they are of any kind, or end before they say it; list and file are lent as either kind has them,
-/// and the list to write has either length.
+/// Calls `visit` with files of both kinds of corridor and of demands that say in their first block,
+/// or in all, that they are of any kind, or end before they say it; list and file are lent as
+/// either kind has them, and the list to write has either length.
 pub fn each_kind_said(size: Size, mut visit: impl FnMut(&FileCase)) {
-    let kinds = List::Demands.kinds();
-    let said = (0..=12).chain([2, 5].into_iter().flat_map(same_in_fewer_bits)).chain([u32::MAX]);
-    let said: Vec<u32> = said.collect();
-    for (&made, &lent) in kinds.iter().flat_map(|made| kinds.iter().map(move |lent| (made, lent))) {
-        let case = FileCase {
-            lent_words: lent.words(size),
-            lent_file: lent.bytes(size),
-            ..counting_file(made, size)
-        };
-        for in_all_blocks in [false, true] {
-            for &kind in &said {
-                let mut changed = case.clone();
-                name_kind(&mut changed.file, kind, in_all_blocks);
-                visit(&changed);
-                changed.file.resize(lent.bytes(size), 0);
-                visit(&changed);
+    for kinds in [List::Corridor, List::Demands].map(List::kinds) {
+        for made in kinds {
+            for lent in kinds {
+                let case = FileCase {
+                    lent_words: lent.words(size),
+                    lent_file: lent.bytes(size),
+                    ..counting_file(*made, size)
+                };
+                each_kind_said_in(&case, &mut visit);
             }
         }
-        for length in 0..=12 {
+    }
+}
+
+/// The same for one file and the list and the file that are lent.
+fn each_kind_said_in(case: &FileCase, visit: &mut impl FnMut(&FileCase)) {
+    let low_bits = [1, 2, 5, 10].into_iter().flat_map(same_in_fewer_bits);
+    let said: Vec<u32> = (0..=12).chain(low_bits).chain([u32::MAX]).collect();
+    for in_all_blocks in [false, true] {
+        for &kind in &said {
             let mut changed = case.clone();
-            changed.file.truncate(length);
-            changed.words.resize(lent.words(size), 0);
+            name_kind(&mut changed.file, kind, in_all_blocks);
+            visit(&changed);
+            changed.file.resize(case.lent_file, 0);
             visit(&changed);
         }
+    }
+    for length in 0..=12 {
+        let mut changed = case.clone();
+        changed.file.truncate(length);
+        changed.words.resize(case.lent_words, 0);
+        visit(&changed);
     }
 }
 

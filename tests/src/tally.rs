@@ -1,10 +1,14 @@
 //! Counts of what the random inputs brought about, so that a test can fail when a refusal, a
 //! setting or a branch of the rules never occurred.
 
+pub mod capacity_drop;
+pub mod downstream;
 pub mod kinds;
 
 use crate::model::{check, Input, NodeStep, Quick, Rules, WHOLE};
-use kinds::{AT_LINK_N, CALLS_BY_KIND, WHERE_LESS_MAY_LEAVE};
+use capacity_drop::{drop_happenings, AT_DROPS, WHERE_DROPPED};
+use downstream::{AT_LINK_N, WHERE_LESS_MAY_LEAVE};
+use kinds::{CALLS_BY_KIND, KINDS_TOGETHER};
 use std::collections::BTreeMap;
 
 /// Counts by name and, for the answers of a call, refusal number.
@@ -44,6 +48,21 @@ impl Tally {
         *self.counts.entry((name, number)).or_default() += times;
     }
 
+    /// Counts for each name how often it was seen.
+    fn add_seen<const N: usize>(
+        &mut self,
+        names: [&'static str; N],
+        seen: impl IntoIterator<Item = [bool; N]>,
+    ) {
+        let mut counts = [0; N];
+        for seen in seen {
+            counts.iter_mut().zip(seen).for_each(|(count, seen)| *count += u64::from(seen));
+        }
+        for (name, count) in names.into_iter().zip(counts) {
+            self.add(name, 0, count);
+        }
+    }
+
     /// Counts the refusal number of an answer, 0 for accepted.
     pub fn answer(&mut self, call: &'static str, answer: u32) {
         self.add(call, answer % 256, 1);
@@ -61,8 +80,8 @@ impl Tally {
         }
     }
 
-    /// The same for every answer that the four calls on words, or on nodes, can give with demands
-    /// of either kind.
+    /// The same for every answer that the four calls on words, or on nodes, can give with a
+    /// corridor and demands of either kind.
     pub fn expect_all_answers(&self, at_least: u64) {
         for [simulate, check, convert, normal] in CALLS_BY_KIND {
             self.expect(simulate, &[0, 1, 2, 3, 4, 5, 6], at_least);
@@ -70,11 +89,12 @@ impl Tally {
             self.expect(convert, &[0, 1, 2, 3, 4, 5, 7, 8, 9, 10, 11, 12, 13], at_least);
             self.expect(normal, &[0, 1, 2, 3, 4, 5, 6, 12], at_least);
         }
-        self.expect_downstream_refusals(at_least / 4);
+        KINDS_TOGETHER.as_flattened().iter().for_each(|name| self.expect(name, &[0], at_least));
+        self.expect_refusals_by_kind(at_least / 4);
     }
 
     /// The answers that even a short series of large inputs brings about, those of all calls and
-    /// those with demands of either kind.
+    /// those with a corridor and demands of either kind.
     pub fn expect_common_answers(&self, at_least: u64) {
         self.expect("simulate", &[0, 1, 6], at_least);
         self.expect("check", &[0, 1, 7, 9, 12], at_least);
@@ -87,12 +107,13 @@ impl Tally {
     }
 
     /// The same for everything that can happen in a step and every setting; less often for what
-    /// only node N and kind 5 bring about.
+    /// only node N and kind 5, or only a drop, bring about.
     pub fn expect_all_happenings(&self, at_least: u64) {
         for name in HAPPENINGS.into_iter().chain(SETTINGS) {
             self.expect(name, &[0], at_least);
         }
-        for name in AT_LINK_N.into_iter().chain(WHERE_LESS_MAY_LEAVE) {
+        let at_link_n = AT_LINK_N.into_iter().chain(WHERE_LESS_MAY_LEAVE);
+        for name in at_link_n.chain(AT_DROPS).chain(WHERE_DROPPED) {
             self.expect(name, &[0], at_least / 5);
         }
     }
@@ -105,24 +126,20 @@ impl Tally {
 
     /// Counts what happened in an accepted simulation.
     pub fn happenings(&mut self, input: &Input, plan: &[u32], record: &[u32]) {
-        let mut counts = [0; HAPPENINGS.len()];
-        for k in 0..input.size.steps {
-            let state = check::state(input, record, k);
-            for i in 0..input.size.nodes() {
-                let place = input.size.plan_place(k, i);
-                let at = NodeStep::new::<Quick>(input, state, k, i);
-                let setting = (plan[place].into(), plan[place + 1].into());
-                let over =
-                    record[input.size.record_place(k + 1, i) + 1] > input.node(i).queue_limit;
-                let seen = node_happenings(input, i, &at, setting);
-                for (count, happened) in counts.iter_mut().zip(seen.into_iter().chain([over])) {
-                    *count += u64::from(happened);
-                }
+        let (mut seen, mut drops) = (vec![], vec![]);
+        for (k, i) in places(input) {
+            let at = NodeStep::new::<Quick>(input, check::state(input, record, k), k, i);
+            let place = input.size.plan_place(k, i);
+            let setting = (plan[place].into(), plan[place + 1].into());
+            let next_queue = record[input.size.record_place(k + 1, i) + 1];
+            let over = next_queue > input.node(i).queue_limit;
+            seen.push(node_happenings(input, i, &at, setting, over));
+            if input.has_drop() && i > 0 {
+                drops.push(drop_happenings(input, record, (k, i), &at, setting));
             }
         }
-        for (name, count) in HAPPENINGS.into_iter().zip(counts) {
-            self.add(name, 0, count);
-        }
+        self.add_seen(HAPPENINGS, seen);
+        self.add_seen(AT_DROPS, drops);
         self.at_link_n(input, plan, record);
     }
 
@@ -130,34 +147,40 @@ impl Tally {
     /// V.
     pub fn settings(&mut self, input: &Input, record: &[u32], plan: &[u32]) {
         let mut counts = [0; SETTINGS.len()];
-        for k in 0..input.size.steps {
-            for i in 0..input.size.nodes() {
-                let full = plan[input.size.plan_place(k, i) + 1] == input.node(i).full_speed;
-                let first_of_place = match i {
-                    0 => 0,
-                    _ if i == input.size.links => 3,
-                    _ => 1,
-                };
-                counts[first_of_place + usize::from(!full)] += 1;
-            }
+        for (k, i) in places(input) {
+            let full = plan[input.size.plan_place(k, i) + 1] == input.node(i).full_speed;
+            let first_of_place = match i {
+                0 => 0,
+                _ if i == input.size.links => 3,
+                _ => 1,
+            };
+            counts[first_of_place + usize::from(!full)] += 1;
         }
         for (name, count) in SETTINGS.into_iter().zip(counts) {
             self.add(name, 0, count);
         }
         self.where_less_may_leave(input, record, plan);
+        self.where_dropped(input, record, plan);
     }
 }
 
-/// Which of the happenings but the last took place at a node; its own record entry is not needed.
+/// Every step and node of an input.
+fn places(input: &Input) -> impl Iterator<Item = (usize, usize)> {
+    let nodes = input.size.nodes();
+    (0..input.size.steps).flat_map(move |k| (0..nodes).map(move |i| (k, i)))
+}
+
+/// Which of the happenings took place at a node; that the queue is then over its limit is told.
 fn node_happenings(
     input: &Input,
     i: usize,
     at: &NodeStep,
     (rate, limit): (u64, u64),
-) -> [bool; HAPPENINGS.len() - 1] {
+    over: bool,
+) -> [bool; HAPPENINGS.len()] {
     let (sending, offer) = (Quick::sending(at, limit), Quick::ramp_offer(at, rate));
     let wanted = Quick::through(sending, at.split) + offer;
-    let room = at.supply;
+    let (most, room) = (Quick::discharge(at), at.supply);
     let next_capacity = (i < input.size.links).then(|| u64::from(input.node(i + 1).capacity));
     [
         wanted <= room,
@@ -165,12 +188,13 @@ fn node_happenings(
         wanted == 0,
         wanted > 0 && room == 0,
         wanted > room && sending > 0 && offer > 0 && room > 0,
-        at.capacity < at.vehicles * limit / WHOLE,
-        at.capacity > at.vehicles * limit / WHOLE && sending > 0,
+        most < at.vehicles * limit / WHOLE,
+        most > at.vehicles * limit / WHOLE && sending > 0,
         at.queue < at.ramp_capacity && at.queue < rate,
         at.ramp_capacity < at.queue && at.ramp_capacity <= rate,
         rate < at.queue && rate < at.ramp_capacity,
         next_capacity.is_some_and(|capacity| room == capacity),
         next_capacity.is_some_and(|capacity| room < capacity),
+        over,
     ]
 }

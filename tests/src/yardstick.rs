@@ -53,7 +53,9 @@ impl Place {
 
     #[inline]
     fn sending(&self, limit: u32) -> u64 {
-        ((self.vehicles * u64::from(limit)) >> 16).min(self.node.capacity.into())
+        let dropped = self.vehicles > self.node.drop_density.into();
+        let most = if dropped { self.node.dropped_capacity } else { self.node.capacity };
+        ((self.vehicles * u64::from(limit)) >> 16).min(most.into())
     }
 
     #[inline]

@@ -1,15 +1,17 @@
 //! The host's readers, writers and calls on block files against the model, byte for byte.
 
 use tests::calls::{ByFiles, OnSmallStack};
+use tests::capacity_drop::*;
 use tests::compare::{
     compare_file, compare_limit_on_files, compare_three, Series, CALLS_ON_FILES, READERS, WRITERS,
 };
+use tests::completed::*;
 use tests::downstream::*;
 use tests::examples::assert_file_examples;
 use tests::host::Host;
 use tests::limits::{greatest, limit_cases};
 use tests::model::kinds::KINDS;
-use tests::model::{List, Quick, Size};
+use tests::model::{Kinds, List, Quick, Size};
 use tests::properties::*;
 use tests::random::damage::full_size;
 use tests::random::files::{
@@ -17,7 +19,7 @@ use tests::random::files::{
 };
 use tests::random::Random;
 use tests::sweeps::{each_count_told, each_file_length, each_file_word_changed, each_kind_said};
-use tests::tally::kinds::{CALLS_ON_FILES_BY_KIND, MIXED_KINDS};
+use tests::tally::kinds::{CALLS_ON_FILES_BY_KIND, KINDS_TOGETHER};
 use tests::tally::Tally;
 
 #[test]
@@ -36,22 +38,22 @@ fn run_files(series: Series, make: fn(&mut Random) -> FileCase, numbers: &[u32],
         tally.expect(reader, numbers, at_least);
         tally.expect(writer, &[0, 1], at_least);
     }
-    MIXED_KINDS.iter().for_each(|name| tally.expect(name, &[0], at_least / 2));
+    tally.expect_mixed_kinds(at_least / 2);
 }
 
 #[test]
 fn small_files() {
-    let series = Series::new("small files", 40_000_000, 60_000);
-    run_files(series, file_case, &[0, 1, 14, 15, 16, 17, 18], 150);
+    let series = Series::new("small files", 40_000_000, 72_000);
+    run_files(series, file_case, &[0, 1, 14, 15, 16, 17, 18], 120);
 }
 
 #[test]
 fn large_files() {
-    let series = Series::new("large files", 50_000_000, 1_000);
+    let series = Series::new("large files", 50_000_000, 1_200);
     run_files(series, large_file_case, &[0, 1, 15, 16, 17], 2);
 }
 
-/// Checker and converter on files, the demands' of either kind.
+/// Checker and converter on files, the corridor's and the demands' of either kind.
 fn run_three(series: Series, make: fn(&mut Random) -> ThreeFiles) -> Tally {
     let mut tally = Tally::default();
     let outcome = series.run(make, |case| compare_three([&Quick, &Host], case, &mut tally));
@@ -67,7 +69,8 @@ fn small_calls_on_files() {
     for call in CALLS_ON_FILES_BY_KIND.as_flattened() {
         tally.expect(call, &numbers, 150);
     }
-    tally.expect_downstream_refusals(50);
+    KINDS_TOGETHER.as_flattened().iter().for_each(|name| tally.expect(name, &[0], 1_000));
+    tally.expect_refusals_by_kind(50);
 }
 
 #[test]
@@ -97,7 +100,7 @@ fn every_place_changed() {
         tally.expect(reader, &[0, 1, 14, 15, 16, 17, 18], 5);
         tally.expect(writer, &[0, 1], 5);
     }
-    MIXED_KINDS.iter().for_each(|name| tally.expect(name, &[0], 5));
+    tally.expect_mixed_kinds(5);
 }
 
 /// Files of just the lengths that a bad N or K tells are refused, and its good neighbours' taken.
@@ -120,7 +123,7 @@ fn sizes_around_a_full_block() {
             let case = FileCase::sound(kind, n, k, words);
             let mut tally = Tally::default();
             assert_eq!(compare_file([&Quick, &Host], &case, &mut tally), Ok(()));
-            tally.expect(READERS[kind as usize - 1], &[0], 1);
+            tally.expect(READERS[kind.place()], &[0], 1);
             sizes += 1;
         }
     }
@@ -148,8 +151,8 @@ fn check_word_sees_any_one_change() {
 fn full_size_on_a_small_stack() {
     let sides = [&Quick as _, &OnSmallStack(Host) as _];
     let mut tally = Tally::default();
-    for &kind in List::Demands.kinds() {
-        let lists = greatest(full_size(), kind, false);
+    for kinds in [Kinds::OLDEST, Kinds::NEWEST] {
+        let lists = greatest(full_size(), kinds, false);
         let three = ThreeFiles::of_case(full_size(), &lists);
         assert_eq!(compare_three(sides, &three, &mut tally), Ok(()));
         for (kind, words) in lists.by_kind() {
@@ -167,7 +170,17 @@ fn full_size_on_a_small_stack() {
 /// files.
 #[test]
 fn kind_two_is_kind_five_completed() {
-    assert_kind_two_is_kind_five_completed_in_files(&Host);
+    assert_completed_files_are_the_same(&Host, List::Demands);
+}
+
+#[test]
+fn kind_one_is_kind_ten_completed() {
+    assert_completed_files_are_the_same(&Host, List::Corridor);
+}
+
+#[test]
+fn links_come_before_the_kind() {
+    assert_links_come_before_the_kind_in_files(&Host);
 }
 
 /// The converter's plan comes from its file.

@@ -1,17 +1,20 @@
 //! The model against documents 01 and 02: the worked cases, the examples of the table, and what they
-//! say of the rules, of the search and of the kinds of demands.
+//! say of the rules, of the search and of the kinds of corridor and demands.
 
 use tests::calls::ByNodes;
-use tests::compare::{compare_file, compare_words, Series};
+use tests::capacity_drop::*;
+use tests::compare::{compare_file, compare_words, Series, READERS};
+use tests::completed::*;
 use tests::downstream::*;
 use tests::examples::{assert_file_examples, assert_program_examples, assert_word_examples};
 use tests::model::convert::{rate_by_halving, rate_from_zero};
 use tests::model::kinds::KINDS;
-use tests::model::{Paper, Quick, Rules};
+use tests::model::{List, Paper, Quick, Rules};
 use tests::properties::*;
 use tests::random::damage::{short_ramp_case, small_case};
 use tests::random::files::{change_block, file_case, file_of};
 use tests::random::records::allowed_flows;
+use tests::tally::kinds::CALLS_BY_KIND;
 use tests::tally::Tally;
 use tests::yardstick::Yardstick;
 
@@ -43,7 +46,7 @@ fn both_searches_give_the_same_answers() {
     tally.expect_all_happenings(1_000);
     // Of 7 to 13 a normal form can meet 12 only.
     assert!([7, 8, 9, 10, 11, 13].iter().all(|&number| tally.count("normal", number) == 0));
-    tally.expect_downstream_refusals(20);
+    tally.expect_refusals_by_kind(20);
 }
 
 /// The benchmarks' yardstick does the same work.
@@ -58,11 +61,11 @@ fn yardstick_gives_the_same_answers() {
     let outcome =
         series.run(file_case, |case| compare_file([&Quick, &Yardstick], case, &mut tally));
     assert_eq!(outcome, Ok(()));
-    for name in ["convert kind 2", "convert kind 5"] {
-        tally.expect(name, &[0, 9, 11, 12], 100);
+    for [_, _, convert, _] in CALLS_BY_KIND {
+        tally.expect(convert, &[0, 9, 11, 12], 100);
     }
-    for name in ["read demands", "read demands of kind 5", "read record"] {
-        tally.expect(name, &[0, 1, 14, 15, 16, 17, 18], 50);
+    for reader in READERS {
+        tally.expect(reader, &[0, 1, 14, 15, 16, 17, 18], 30);
     }
 }
 
@@ -123,10 +126,33 @@ fn link_n_keeps_to_its_words() {
 }
 
 #[test]
-fn kind_two_is_kind_five_completed() {
-    assert_kind_two_is_kind_five_completed(&Quick);
-    assert_kind_two_is_kind_five_completed_in_files(&Quick);
-    assert_kind_two_is_kind_five_completed_in_program(&Quick);
+fn oldest_kinds_are_newest_completed() {
+    for list in [List::Corridor, List::Demands] {
+        assert_completed_lists_are_the_same(&Quick, list);
+        assert_completed_files_are_the_same(&Quick, list);
+        assert_completed_inputs_are_the_same(&Quick, list);
+    }
+}
+
+#[test]
+fn drop_sets_what_a_link_sends() {
+    assert_drop_sets_what_a_link_sends(&Paper);
+}
+
+#[test]
+fn link_keeps_receiving() {
+    assert_link_keeps_receiving(&Paper);
+}
+
+#[test]
+fn sending_is_monotone_in_the_limit() {
+    assert_sending_is_monotone_in_the_limit(&Paper);
+}
+
+#[test]
+fn links_come_before_the_kind() {
+    assert_links_come_before_the_kind(&Quick);
+    assert_links_come_before_the_kind_in_files(&Quick);
 }
 
 #[test]

@@ -1,13 +1,15 @@
 //! The host's calls with the corridor as a list of nodes against the model, word for word.
 
 use tests::calls::{ByNodes, OnSmallStack};
+use tests::capacity_drop::*;
 use tests::compare::{compare_limit_on_words, compare_words, Series, CALLS_ON_LISTS};
+use tests::completed::*;
 use tests::downstream::*;
-use tests::examples::downstream::b_downstream;
-use tests::examples::{assert_word_examples, b};
+use tests::examples::assert_word_examples;
+use tests::examples::capacity_drop::b_of_all_kinds;
 use tests::host::Host;
 use tests::limits::{greatest, limit_cases};
-use tests::model::{Kind, List, Paper, Quick, Size};
+use tests::model::{Kinds, List, Paper, Quick, Size};
 use tests::properties::*;
 use tests::random::damage::{full_size, large_case, size, small_case};
 use tests::random::sound::{sound_case, WordCase};
@@ -21,7 +23,8 @@ fn worked_cases_and_table() {
     assert_word_examples(&ByNodes(Host));
 }
 
-/// B with demands of both kinds, with one word or one length changed, every place in turn.
+/// B with a corridor and demands of both kinds, with one word or one length changed, every place in
+/// turn.
 #[test]
 fn every_place_changed() {
     let mut tally = Tally::default();
@@ -29,7 +32,7 @@ fn every_place_changed() {
     let mut compare = |case: &WordCase| {
         assert_eq!(compare_words(sides, case, &mut tally), Ok(()), "{case:?}");
     };
-    for case in [b(), b_downstream()] {
+    for case in b_of_all_kinds() {
         each_word_changed(&case, &mut compare);
         each_length_changed(&case, &mut compare);
     }
@@ -51,6 +54,7 @@ fn run(series: Series, make: fn(&mut Random) -> WordCase) -> Tally {
 fn small_inputs() {
     let tally = run(Series::new("small inputs", 90_000_000, 50_000), small_case);
     tally.expect_all_answers(200);
+    tally.expect_all_happenings(2_000);
 }
 
 #[test]
@@ -94,13 +98,13 @@ fn assert_all(case: &WordCase, accepted: bool) {
 /// other lists are for N links too.
 #[test]
 fn every_number_of_nodes() {
-    let most = greatest(full_size(), Kind::Demands, false);
+    let most = greatest(full_size(), Kinds::OLDEST, false);
     for nodes in 1..=70 {
         let size = Size { links: nodes - 1, steps: 3 };
-        for &kind in List::Demands.kinds() {
-            assert_all(&greatest(size, kind, false), (2..=65).contains(&nodes));
+        for kinds in Kinds::all() {
+            assert_all(&greatest(size, kinds, false), (2..=65).contains(&nodes));
         }
-        let corridor = greatest(size, Kind::Demands, false).corridor;
+        let corridor = greatest(size, Kinds::OLDEST, false).corridor;
         assert_all(&WordCase { corridor, ..most.clone() }, nodes == 65);
     }
 }
@@ -109,9 +113,9 @@ fn every_number_of_nodes() {
 #[test]
 fn full_size_on_a_small_stack() {
     let mut tally = Tally::default();
-    for &kind in List::Demands.kinds() {
+    for kinds in [Kinds::OLDEST, Kinds::NEWEST] {
         for jammed in [true, false] {
-            let case = greatest(full_size(), kind, jammed);
+            let case = greatest(full_size(), kinds, jammed);
             let sides = [&ByNodes(Quick) as _, &OnSmallStack(ByNodes(Host)) as _];
             assert_eq!(compare_words(sides, &case, &mut tally), Ok(()));
         }
@@ -158,5 +162,20 @@ fn link_n_keeps_to_its_words() {
 
 #[test]
 fn kind_two_is_kind_five_completed() {
-    assert_kind_two_is_kind_five_completed(&ByNodes(Host));
+    assert_completed_lists_are_the_same(&ByNodes(Host), List::Demands);
+}
+
+#[test]
+fn drop_sets_what_a_link_sends() {
+    assert_drop_sets_what_a_link_sends(&ByNodes(Host));
+}
+
+#[test]
+fn link_keeps_receiving() {
+    assert_link_keeps_receiving(&ByNodes(Host));
+}
+
+#[test]
+fn sending_is_monotone_in_the_limit() {
+    assert_sending_is_monotone_in_the_limit(&ByNodes(Host));
 }

@@ -46,19 +46,29 @@ fn worked_lists_are_what_the_calls_compute() {
     }
 }
 
-/// Where 70 units may leave link 2: f of node 2, n of link 2 after it, and the cost.
+/// The worked plan with that corridor and those demands has the worked record, but for f of node 2,
+/// n of link 2 after it, and the cost.
+fn assert_out_of_link_2(corridor: &str, demands: &str, out: [u32; 3]) {
+    let [corridor, demands, plan, mut record] = [corridor, demands, "plan", "record"].map(words);
+    let (f, n, cost) = (10, 20, 24);
+    [record[f], record[n], record[cost]] = out;
+    for side in [&Quick as &dyn WordCalls, &Host] {
+        let mut work = vec![u32::MAX; record.len()];
+        assert_eq!(side.simulate(&corridor, &demands, &plan, &mut work), 0);
+        assert_eq!(work, record);
+    }
+}
+
+/// Where 70 units may leave link 2.
 #[test]
 fn worked_demands_of_kind_five_are_what_the_calls_compute() {
-    let [corridor, downstream, plan, record] =
-        ["corridor", "downstream", "plan", "record"].map(words);
-    let (f, n, cost) = (10, 20, 24);
-    let mut behind = record;
-    (behind[f], behind[n], behind[cost]) = (70, 230, 400);
-    for side in [&Quick as &dyn WordCalls, &Host] {
-        let mut work = vec![u32::MAX; behind.len()];
-        assert_eq!(side.simulate(&corridor, &downstream, &plan, &mut work), 0);
-        assert_eq!(work, behind);
-    }
+    assert_out_of_link_2("corridor", "downstream", [70, 230, 400]);
+}
+
+/// Where link 2 discharges 80 units above a density that it has passed.
+#[test]
+fn worked_corridor_of_kind_ten_is_what_the_calls_compute() {
+    assert_out_of_link_2("drop", "demands", [80, 220, 390]);
 }
 
 #[test]
@@ -91,16 +101,18 @@ fn page_and_header_have_the_same_refusals() {
     assert_eq!(in_page, in_header);
 }
 
+/// In the header a list may take more than one line; the four follow one another.
 #[test]
 fn page_and_header_have_the_same_order_of_words() {
     let (page, header) = (text_of("docs/MODEL.md"), text_of("include/gigorchid.h"));
-    let header: Vec<String> =
-        header.lines().map(|line| single_spaced(line.trim_start_matches([' ', '*']))).collect();
-    for list in ["corridor", "demands", "plan", "record"] {
-        let table = rows(&page);
+    let lines: Vec<&str> = header.lines().map(|line| line.trim_start_matches([' ', '*'])).collect();
+    let table = rows(&page);
+    let lists = ["corridor", "demands", "plan", "record"].map(|list| {
         let row = table.iter().find(|row| row[0] == list).expect("a row for the list");
-        assert!(header.contains(&format!("{list} {}", row[1])), "{list}: {}", row[1]);
-    }
+        format!("{list} {}", row[1])
+    });
+    let (header, lists) = (single_spaced(&lines.join(" ")), lists.join(" "));
+    assert!(header.contains(&lists), "{lists}");
 }
 
 #[test]

@@ -9,12 +9,12 @@ use std::path::Path;
 use std::process::Output;
 use tests::calls::Program;
 use tests::compare::{compare_limit_of_program, compare_program, Series};
-use tests::downstream::*;
+use tests::completed::*;
 use tests::examples::assert_program_examples;
 use tests::limits::limit_cases;
 use tests::model::lists::{MOST_LINKS, MOST_STEPS};
 use tests::model::program::{file_ends, MOST_BYTES};
-use tests::model::{Kind, List, Quick, Size};
+use tests::model::{Kinds, List, Quick, Size};
 use tests::program::{run, Executable};
 use tests::random::files::{name_kind, program_input, ThreeFiles};
 use tests::random::sound::{sound_case, sound_case_of};
@@ -41,16 +41,17 @@ fn random_inputs() {
     for [.., normal] in CALLS_BY_KIND {
         tally.expect(normal, &[0, 2, 3, 4, 5, 7, 8, 9, 10, 11, 12, 13, 15, 16, 17, 18], 10);
     }
-    tally.expect_downstream_refusals(2);
+    tally.expect_refusals_by_kind(2);
     tally.expect("held lines", &[0], 1_000);
     tally.expect("full lines", &[0], 1_000);
 }
 
-/// Sizes whose three files have just that many bytes, for all N, with demands of that kind.
-fn sizes_of(bytes: usize, demands: Kind) -> Vec<Size> {
+/// Sizes whose three files have just that many bytes, for all N, with corridor and demands of those
+/// kinds.
+fn sizes_of(bytes: usize, kinds: Kinds) -> Vec<Size> {
     let all = (1..=MOST_LINKS).flat_map(|n| (1..=MOST_STEPS).map(move |k| Size::new(n, k)));
     let all = all.map(|size| size.expect("within limits"));
-    all.filter(|size| file_ends(*size, demands)[2] == bytes).collect()
+    all.filter(|size| file_ends(*size, kinds)[2] == bytes).collect()
 }
 
 /// Inputs just as long as the program takes, one block shorter and one longer.
@@ -59,10 +60,10 @@ fn longest_inputs() {
     let program = Executable::new();
     let mut tally = Tally::default();
     let mut random = Random::new(130_000_000);
-    for &kind in List::Demands.kinds() {
+    for kinds in Kinds::all() {
         for bytes in [MOST_BYTES - 512, MOST_BYTES, MOST_BYTES + 512] {
-            for size in sizes_of(bytes, kind).into_iter().step_by(4) {
-                let case = sound_case_of(&mut random, size, kind, false);
+            for size in sizes_of(bytes, kinds).into_iter().step_by(8) {
+                let case = sound_case_of(&mut random, size, kinds, false);
                 let input = ThreeFiles::of_case(size, &case).files().concat();
                 assert_eq!(compare_program([&Quick, &program], &input, &mut tally), Ok(()));
             }
@@ -82,52 +83,71 @@ fn limits_of_links_and_steps() {
     assert_eq!(outcome, Ok(()));
 }
 
-/// A sound input cut at every byte up to the end of K, and beside every later block's end.
+/// Sound inputs cut at every byte up to the end of N and around the end of K, whose place the
+/// corridor's kind tells, and beside every block's end.
 #[test]
 fn inputs_that_end_early() {
     let program = Executable::new();
-    let size = Size { links: 2, steps: 3 };
     let mut tally = Tally::default();
-    for &kind in List::Demands.kinds() {
-        let case = sound_case_of(&mut Random::new(140_000_000), size, kind, false);
-        let input = ThreeFiles::of_case(size, &case).files().concat();
-        let near_blocks = (1..=3).flat_map(|block| 512 * block - 1..=512 * block + 1);
-        let lengths = (0..=16).chain(508..=528).chain(near_blocks);
+    let sizes = [(2, 3), (11, 1)].map(|(links, steps)| Size { links, steps });
+    for (kinds, size) in Kinds::all().flat_map(|kinds| sizes.map(|size| (kinds, size))) {
+        let case = sound_case_of(&mut Random::new(140_000_000), size, kinds, false);
+        let three = ThreeFiles::of_case(size, &case);
+        let (input, demands) = (three.files().concat(), three.corridor.len());
+        let near_blocks =
+            (1..=input.len() / 512).flat_map(|block| 512 * block - 1..=512 * block + 1);
+        let lengths = (0..=16).chain(demands - 4..=demands + 16).chain(near_blocks);
         for length in lengths.filter(|&length| length <= input.len()) {
             let outcome = compare_program([&Quick, &program], &input[..length], &mut tally);
             assert_eq!(outcome, Ok(()), "{length} bytes");
         }
     }
-    tally.expect("normal", &[14], 80);
+    tally.expect("normal", &[14], 250);
 }
 
-/// Inputs of both kinds whose demands say that they are of any kind, in their first block or in all,
-/// the rest of the input being where it was or where that kind has it.
-#[test]
-fn demands_that_say_another_kind() {
+/// Inputs of both kinds in which the file of that list says that it is of any kind, in its first
+/// block or in all, the rest of the input being where it was or where that kind has it; asserts
+/// that these answers came up.
+fn run_with_another_kind_said(list: List, numbers: &[u32]) {
     let program = Executable::new();
-    let size = Size { links: 2, steps: 60 };
+    // The kinds of either list then differ in their number of blocks.
+    let size = Size { links: 11, steps: 5 };
     let mut tally = Tally::default();
-    for &kind in List::Demands.kinds() {
-        let case = sound_case_of(&mut Random::new(210_000_000), size, kind, false);
+    for kinds in Kinds::all() {
+        let case = sound_case_of(&mut Random::new(210_000_000), size, kinds, false);
         let three = ThreeFiles::of_case(size, &case);
         for (said, in_all_blocks) in (0..=12).flat_map(|said| [(said, false), (said, true)]) {
-            for length in List::Demands.kinds().iter().map(|kind| kind.bytes(size)) {
-                let mut demands = three.demands.clone();
-                name_kind(&mut demands, said, in_all_blocks);
-                demands.resize(length, 0);
-                let input = [&three.corridor[..], &demands, &three.record].concat();
-                let outcome = compare_program([&Quick, &program], &input, &mut tally);
-                assert_eq!(outcome, Ok(()), "{kind:?}, {said}, {length} bytes");
+            for length in list.kinds().iter().map(|kind| kind.bytes(size)) {
+                let mut files = three.files().map(<[u8]>::to_vec);
+                name_kind(&mut files[list as usize], said, in_all_blocks);
+                files[list as usize].resize(length, 0);
+                let outcome = compare_program([&Quick, &program], &files.concat(), &mut tally);
+                assert_eq!(outcome, Ok(()), "{kinds:?}, {said}, {length} bytes");
             }
         }
     }
-    tally.expect("normal", &[0, 14, 16], 2);
+    tally.expect("normal", numbers, 4);
+}
+
+/// K is looked for at another place then, where a bad one stands.
+#[test]
+fn corridors_that_say_another_kind() {
+    run_with_another_kind_said(List::Corridor, &[0, 1, 16]);
+}
+
+#[test]
+fn demands_that_say_another_kind() {
+    run_with_another_kind_said(List::Demands, &[0, 14, 16]);
 }
 
 #[test]
 fn kind_two_is_kind_five_completed() {
-    assert_kind_two_is_kind_five_completed_in_program(&Executable::new());
+    assert_completed_inputs_are_the_same(&Executable::new(), List::Demands);
+}
+
+#[test]
+fn kind_one_is_kind_ten_completed() {
+    assert_completed_inputs_are_the_same(&Executable::new(), List::Corridor);
 }
 
 /// A case out of the example files.

@@ -1,18 +1,21 @@
 //! The host's calls on word lists against the model: answers and lent lists, word for word.
 
 use tests::calls::{OnSmallStack, WordCalls};
+use tests::capacity_drop::*;
 use tests::compare::{compare_limit_on_words, compare_words, Series};
+use tests::completed::*;
 use tests::downstream::*;
-use tests::examples::downstream::b_downstream;
-use tests::examples::{assert_word_examples, b};
+use tests::examples::assert_word_examples;
+use tests::examples::capacity_drop::{b_above_jam, b_of_all_kinds};
 use tests::host::Host;
 use tests::limits::{greatest, limit_cases};
-use tests::model::{Kind, List, Paper, Quick, Size};
+use tests::model::{Kinds, List, Paper, Quick, Size};
 use tests::properties::*;
 use tests::random::damage::{full_size, large_case, short_ramp_case, small_case};
 use tests::random::sound::{sound_case_of, WordCase};
 use tests::random::Random;
 use tests::sweeps::{each_length_changed, each_word_changed};
+use tests::tally::capacity_drop::DROP_REFUSALS;
 use tests::tally::kinds::CALLS_BY_KIND;
 use tests::tally::Tally;
 
@@ -30,14 +33,15 @@ fn worked_cases_and_table() {
     assert_word_examples(&Host);
 }
 
-/// B and a longer case, with demands of both kinds, with one word or one length changed, every place
-/// in turn.
+/// B and a longer case, with a corridor and demands of both kinds, with one word or one length
+/// changed, every place in turn.
 #[test]
 fn every_place_changed() {
     let size = Size { links: 3, steps: 3 };
-    let longer = |kind| sound_case_of(&mut Random::new(4), size, kind, false);
+    let longer = |kinds| sound_case_of(&mut Random::new(4), size, kinds, false);
     let mut tally = Tally::default();
-    for case in [b(), b_downstream(), longer(Kind::Demands), longer(Kind::Downstream)] {
+    let b = b_of_all_kinds().into_iter().chain([b_above_jam()]);
+    for case in b.chain(Kinds::all().map(longer)) {
         let mut compare = |case: &WordCase| {
             assert_eq!(compare_words([&Paper, &Host], case, &mut tally), Ok(()), "{case:?}");
         };
@@ -53,6 +57,7 @@ fn every_place_changed() {
     for name in ["flow refused by 9 at node N", "word refused by 5"] {
         tally.expect(name, &[0], 10);
     }
+    DROP_REFUSALS.iter().for_each(|name| tally.expect(name, &[0], 2));
 }
 
 #[test]
@@ -88,10 +93,10 @@ fn limits_of_links_and_steps() {
 #[test]
 fn full_size_on_a_small_stack() {
     let mut tally = Tally::default();
-    for &kind in List::Demands.kinds() {
-        let sound = |seed| sound_case_of(&mut Random::new(seed), full_size(), kind, false);
-        let greatest = [true, false].map(|jammed| greatest(full_size(), kind, jammed));
-        for case in greatest.into_iter().chain((0..8).map(sound)) {
+    for kinds in Kinds::all() {
+        let sound = |seed| sound_case_of(&mut Random::new(seed), full_size(), kinds, false);
+        let greatest = [true, false].map(|jammed| greatest(full_size(), kinds, jammed));
+        for case in greatest.into_iter().chain((0..3).map(sound)) {
             let outcome = compare_words([&Quick, &OnSmallStack(Host)], &case, &mut tally);
             assert_eq!(outcome, Ok(()));
         }
@@ -139,5 +144,30 @@ fn link_n_keeps_to_its_words() {
 
 #[test]
 fn kind_two_is_kind_five_completed() {
-    assert_kind_two_is_kind_five_completed(&Host);
+    assert_completed_lists_are_the_same(&Host, List::Demands);
+}
+
+#[test]
+fn kind_one_is_kind_ten_completed() {
+    assert_completed_lists_are_the_same(&Host, List::Corridor);
+}
+
+#[test]
+fn drop_sets_what_a_link_sends() {
+    assert_drop_sets_what_a_link_sends(&Host);
+}
+
+#[test]
+fn link_keeps_receiving() {
+    assert_link_keeps_receiving(&Host);
+}
+
+#[test]
+fn sending_is_monotone_in_the_limit() {
+    assert_sending_is_monotone_in_the_limit(&Host);
+}
+
+#[test]
+fn links_come_before_the_kind() {
+    assert_links_come_before_the_kind(&Host);
 }

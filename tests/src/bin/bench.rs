@@ -6,7 +6,7 @@ use std::time::Instant;
 use tests::calls::WordCalls;
 use tests::host::Host;
 use tests::model::lists::{corridor_of, Node};
-use tests::model::{Input, Kind, MOST_QUEUE_LIMIT};
+use tests::model::{Input, Kind, Kinds, MOST_QUEUE_LIMIT};
 use tests::random::damage::full_size;
 use tests::random::records::record_of_plan;
 use tests::random::Random;
@@ -24,6 +24,7 @@ struct Lists {
 
 fn node(random: &mut Random, i: usize, links: usize) -> Node {
     let (link, ramp) = (u32::from(i > 0), u32::from(i < links));
+    let drop_density = [10_000, 20_000, 30_000][i % 3];
     Node {
         identifier: 1 + i as u32,
         capacity: link * random.within(30_000, 65_536) as u32,
@@ -34,13 +35,16 @@ fn node(random: &mut Random, i: usize, links: usize) -> Node {
         queue_limit: ramp * MOST_QUEUE_LIMIT,
         start_vehicles: link * 20_000,
         start_queue: ramp * 1_000_000,
+        dropped_capacity: link * 25_000,
+        drop_density: link * drop_density,
     }
 }
 
 /// 64 links and 1,440 steps, every ramp as long as any and with a long queue, some links held and
 /// some with too little room, so that the search for a rate has everything to do. With demands of
-/// kind 5 less may leave the last link in some steps than it sends.
-fn lists(demands_kind: Kind) -> Lists {
+/// kind 5 less may leave the last link in some steps than it sends; with a corridor of kind 10
+/// links pass their drop densities both ways.
+fn lists(kinds: Kinds) -> Lists {
     let size = full_size();
     let mut random = Random::new(1);
     let nodes: Vec<Node> = (0..size.nodes()).map(|i| node(&mut random, i, size.links)).collect();
@@ -56,10 +60,10 @@ fn lists(demands_kind: Kind) -> Lists {
             plan.extend([random.within(0, node.ramp_capacity.into()) as u32, limit]);
         }
     }
-    if demands_kind == Kind::Downstream {
+    if kinds.demands == Kind::Downstream {
         demands.extend((0..size.steps).map(|_| random.within(0, 65_536) as u32));
     }
-    let corridor = corridor_of(&nodes);
+    let corridor = corridor_of(kinds.corridor, &nodes);
     let input = Input::new(&corridor, &demands).expect("made to these lengths");
     let record = record_of_plan(&input, &plan);
     Lists { corridor, demands, plan, record }
@@ -97,7 +101,7 @@ fn compare<T: Copy + Default>(
     println!("| {name} | {host:.3} | {rust:.3} | {:.2} |", host / rust);
 }
 
-fn bench_words(lists: &Lists, demands_kind: Kind) {
+fn bench_words(lists: &Lists, kind: &str) {
     let Lists { corridor, demands, plan, record } = lists;
     let simulate =
         |calls: &dyn WordCalls, out: &mut [u32]| calls.simulate(corridor, demands, plan, out);
@@ -105,7 +109,7 @@ fn bench_words(lists: &Lists, demands_kind: Kind) {
     let convert =
         |calls: &dyn WordCalls, out: &mut [u32]| calls.convert(corridor, demands, record, out);
     let (record_length, plan_length) = (record.len(), plan.len());
-    let name = |call: &str| format!("{call}, demands of kind {}", demands_kind as u32);
+    let name = |call: &str| format!("{call}, {kind}");
     compare(&name("simulate"), record_length, &mut |out| simulate(&Host, out), &mut |out| {
         simulate(&Yardstick, out)
     });
@@ -116,18 +120,25 @@ fn bench_words(lists: &Lists, demands_kind: Kind) {
 }
 
 #[cfg(feature = "files")]
-fn bench_files(two: &Lists, five: &Lists) {
+fn bench_files(oldest: &Lists, newest: &Lists) {
     use tests::calls::FileCalls;
     use tests::compare::{READERS, WRITERS};
     use tests::model::kinds::KINDS;
     use tests::random::files::file_of;
-    let all = [&two.corridor, &two.demands, &two.record, &two.plan, &five.demands];
+    let all = [
+        &oldest.corridor,
+        &oldest.demands,
+        &oldest.record,
+        &oldest.plan,
+        &newest.demands,
+        &newest.corridor,
+    ];
     for (kind, words) in KINDS.into_iter().zip(all) {
         let (file, list) = (file_of(kind, words), kind.list());
         let read = |calls: &dyn FileCalls, out: &mut [u32]| calls.read(list, 64, 1_440, &file, out);
         let write =
             |calls: &dyn FileCalls, out: &mut [u8]| calls.write(list, 64, 1_440, words, out);
-        let (reader, writer) = (READERS[kind as usize - 1], WRITERS[kind as usize - 1]);
+        let (reader, writer) = (READERS[kind.place()], WRITERS[kind.place()]);
         compare(reader, words.len(), &mut |out| read(&Host, out), &mut |out| read(&Yardstick, out));
         compare(writer, file.len(), &mut |out| write(&Host, out), &mut |out| {
             write(&Yardstick, out)
@@ -136,11 +147,14 @@ fn bench_files(two: &Lists, five: &Lists) {
 }
 
 fn main() {
-    let [two, five] = [Kind::Demands, Kind::Downstream].map(lists);
+    let oldest = lists(Kinds::OLDEST);
     println!("| 64 links, 1,440 steps | host, ms | Rust, ms | ratio |");
     println!("|-|-|-|-|");
-    bench_words(&two, Kind::Demands);
-    bench_words(&five, Kind::Downstream);
+    bench_words(&oldest, "demands of kind 2");
+    let downstream = Kinds { demands: Kind::Downstream, ..Kinds::OLDEST };
+    bench_words(&lists(downstream), "demands of kind 5");
+    let drop = Kinds { corridor: Kind::CapacityDrop, ..Kinds::OLDEST };
+    bench_words(&lists(drop), "corridor of kind 10");
     #[cfg(feature = "files")]
-    bench_files(&two, &five);
+    bench_files(&oldest, &lists(Kinds::NEWEST));
 }

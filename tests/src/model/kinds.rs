@@ -2,6 +2,7 @@
 //! length of a list, given or lent; word 0 of the first block of a file.
 
 use super::files::{file_bytes, words_of};
+use super::lists::{DROP_WORDS, NODE_WORDS};
 use super::{refusal, Refusal, Size};
 
 /// The word lists; each has one reader and one writer for all its kinds.
@@ -22,16 +23,18 @@ pub enum Kind {
     Plan = 4,
     /// Demands that end with the flow that may leave link N in each step.
     Downstream = 5,
+    /// A corridor whose nodes end with dropped capacity and drop density.
+    CapacityDrop = 10,
 }
 
-pub const KINDS: [Kind; 5] =
-    [Kind::Corridor, Kind::Demands, Kind::Record, Kind::Plan, Kind::Downstream];
+pub const KINDS: [Kind; 6] =
+    [Kind::Corridor, Kind::Demands, Kind::Record, Kind::Plan, Kind::Downstream, Kind::CapacityDrop];
 
 impl List {
     /// The kinds that fit, the oldest first.
     pub fn kinds(self) -> &'static [Kind] {
         match self {
-            List::Corridor => &[Kind::Corridor],
+            List::Corridor => &[Kind::Corridor, Kind::CapacityDrop],
             List::Demands => &[Kind::Demands, Kind::Downstream],
             List::Record => &[Kind::Record],
             List::Plan => &[Kind::Plan],
@@ -54,10 +57,15 @@ impl List {
 }
 
 impl Kind {
+    /// Where it stands among all kinds.
+    pub fn place(self) -> usize {
+        KINDS.iter().position(|&kind| kind == self).expect("all kinds are there")
+    }
+
     /// The list that it is a kind of.
     pub fn list(self) -> List {
         match self {
-            Kind::Corridor => List::Corridor,
+            Kind::Corridor | Kind::CapacityDrop => List::Corridor,
             Kind::Demands | Kind::Downstream => List::Demands,
             Kind::Record => List::Record,
             Kind::Plan => List::Plan,
@@ -67,11 +75,19 @@ impl Kind {
     /// The length of the kind's word list.
     pub fn words(self, size: Size) -> usize {
         match self {
-            Kind::Corridor => size.corridor(),
+            Kind::Corridor | Kind::CapacityDrop => 1 + self.node_words() * size.nodes(),
             Kind::Demands => size.demands(),
             Kind::Record => size.record(),
             Kind::Plan => size.plan(),
             Kind::Downstream => size.demands() + size.steps,
+        }
+    }
+
+    /// The words of a node in a corridor of that kind.
+    pub fn node_words(self) -> usize {
+        match self {
+            Kind::CapacityDrop => NODE_WORDS + DROP_WORDS,
+            _ => NODE_WORDS,
         }
     }
 
@@ -87,5 +103,24 @@ impl Kind {
     /// The length of the kind's file in bytes.
     pub fn bytes(self, size: Size) -> usize {
         file_bytes(self.words(size))
+    }
+}
+
+/// The kinds of an input's corridor and demands.
+#[derive(Clone, Copy, Debug, PartialEq, Eq)]
+pub struct Kinds {
+    pub corridor: Kind,
+    pub demands: Kind,
+}
+
+impl Kinds {
+    pub const OLDEST: Kinds = Kinds { corridor: Kind::Corridor, demands: Kind::Demands };
+    pub const NEWEST: Kinds = Kinds { corridor: Kind::CapacityDrop, demands: Kind::Downstream };
+
+    /// Each kind of corridor with each kind of demands.
+    pub fn all() -> impl Iterator<Item = Kinds> + Clone {
+        List::Corridor.kinds().iter().flat_map(|&corridor| {
+            List::Demands.kinds().iter().map(move |&demands| Kinds { corridor, demands })
+        })
     }
 }

@@ -1,11 +1,15 @@
 //! The word lists: their lengths, where each word stands, and refusals 1 to 6, which concern the
 //! corridor, the demands and the plan.
 
-use super::{refusal, refuse_if, List, Outcome, Quick, Refusal, Rules, MOST_QUEUE_LIMIT, WHOLE};
+use super::{
+    refusal, refuse_if, Kind, List, Outcome, Quick, Refusal, Rules, MOST_QUEUE_LIMIT, WHOLE,
+};
 
 pub const MOST_LINKS: u32 = 64;
 pub const MOST_STEPS: u32 = 1_440;
+/// The words of a node in a corridor of kind 1, and those that kind 10 has after them.
 pub const NODE_WORDS: usize = 9;
+pub const DROP_WORDS: usize = 2;
 pub const DEMAND_WORDS: usize = 2;
 pub const PLAN_WORDS: usize = 2;
 pub const RECORD_WORDS: usize = 4;
@@ -28,10 +32,6 @@ impl Size {
 
     pub fn nodes(self) -> usize {
         self.links + 1
-    }
-
-    pub fn corridor(self) -> usize {
-        1 + NODE_WORDS * self.nodes()
     }
 
     /// K, then Q and b of each step and node: all of kind 2, and what kind 5 starts with.
@@ -69,7 +69,7 @@ impl Size {
     }
 }
 
-/// One node as the corridor lists it, also the C host's struct of the same order.
+/// One node as a corridor of kind 10 lists it, also the C host's struct of the same order.
 #[repr(C)]
 #[derive(Clone, Copy, Debug, PartialEq, Eq)]
 pub struct Node {
@@ -82,10 +82,19 @@ pub struct Node {
     pub queue_limit: u32,
     pub start_vehicles: u32,
     pub start_queue: u32,
+    pub dropped_capacity: u32,
+    pub drop_density: u32,
 }
 
 impl Node {
+    /// A node's words in a corridor of either kind; kind 1 counts as dropped capacity F and drop
+    /// density J.
     pub fn from_words(words: &[u32]) -> Node {
+        let (words, drop) = words.split_at(NODE_WORDS);
+        let (dropped_capacity, drop_density) = match *drop {
+            [dropped_capacity, drop_density] => (dropped_capacity, drop_density),
+            _ => (words[1], words[4]),
+        };
         Node {
             identifier: words[0],
             capacity: words[1],
@@ -96,10 +105,12 @@ impl Node {
             queue_limit: words[6],
             start_vehicles: words[7],
             start_queue: words[8],
+            dropped_capacity,
+            drop_density,
         }
     }
 
-    pub fn words(&self) -> [u32; NODE_WORDS] {
+    pub fn words(&self) -> [u32; NODE_WORDS + DROP_WORDS] {
         [
             self.identifier,
             self.capacity,
@@ -110,52 +121,66 @@ impl Node {
             self.queue_limit,
             self.start_vehicles,
             self.start_queue,
+            self.dropped_capacity,
+            self.drop_density,
         ]
     }
 }
 
-/// The corridor that a list of nodes stands for. No node at all gives N = 2^32 − 1, a bad one.
-pub fn corridor_of(nodes: &[Node]) -> Vec<u32> {
+/// The nodes as a corridor of that kind. No node at all gives N = 2^32 − 1, a bad one.
+pub fn corridor_of(kind: Kind, nodes: &[Node]) -> Vec<u32> {
     let mut corridor = vec![(nodes.len() as u32).wrapping_sub(1)];
     for node in nodes {
-        corridor.extend(node.words());
+        corridor.extend(&node.words()[..kind.node_words()]);
     }
     corridor
 }
 
 /// Corridor and demands, of lengths that fit each other.
-#[derive(Clone, Copy)]
 pub struct Input<'a> {
     pub size: Size,
-    corridor: &'a [u32],
+    pub corridor_kind: Kind,
+    nodes: Vec<Node>,
     demands: &'a [u32],
 }
 
 impl<'a> Input<'a> {
     /// Two lists within the limits of document 01.
-    pub fn new(corridor: &'a [u32], demands: &'a [u32]) -> Result<Input<'a>, Refusal> {
+    pub fn new(corridor: &[u32], demands: &'a [u32]) -> Result<Input<'a>, Refusal> {
         Input::by::<Quick>(corridor, demands)
     }
 
     /// Refusal 1 as far as these two lists go; N and K are their first words.
-    pub fn by<R: Rules>(corridor: &'a [u32], demands: &'a [u32]) -> Result<Input<'a>, Refusal> {
+    pub fn by<R: Rules>(corridor: &[u32], demands: &'a [u32]) -> Result<Input<'a>, Refusal> {
         let bad = refusal(1, 0, 0);
         let n = *corridor.first().ok_or(bad)?;
         let k = *demands.first().ok_or(bad)?;
         let size = R::size(n, k)?;
-        same_length(corridor.len(), size.corridor())?;
+        let corridor_kind = R::kind_of_length(List::Corridor, size, corridor.len())?;
         R::kind_of_length(List::Demands, size, demands.len())?;
-        Ok(Input::of_size(size, corridor, demands))
+        Ok(Input::of_size(size, corridor_kind, corridor, demands))
     }
 
-    /// Lists that have the lengths of a size, which may be beyond the limits.
-    pub fn of_size(size: Size, corridor: &'a [u32], demands: &'a [u32]) -> Input<'a> {
-        Input { size, corridor, demands }
+    /// A corridor of that kind and demands that have the lengths of a size, which may be beyond the
+    /// limits.
+    pub fn of_size(
+        size: Size,
+        corridor_kind: Kind,
+        corridor: &[u32],
+        demands: &'a [u32],
+    ) -> Input<'a> {
+        let nodes = corridor[1..].chunks_exact(corridor_kind.node_words());
+        let nodes = nodes.take(size.nodes()).map(Node::from_words).collect();
+        Input { size, corridor_kind, nodes, demands }
     }
 
     pub fn node(&self, i: usize) -> Node {
-        let place = 1 + NODE_WORDS * i;
-        Node::from_words(&self.corridor[place..place + NODE_WORDS])
+        self.nodes[i]
+    }
+
+    /// Whether the corridor is of kind 10.
+    pub fn has_drop(&self) -> bool {
+        self.corridor_kind == Kind::CapacityDrop
     }
 
     pub fn arrivals(&self, k: usize, i: usize) -> u64 {
@@ -205,14 +230,21 @@ pub fn test_input<R: Rules>(input: &Input) -> Outcome {
 }
 
 /// Refusal 2: F, V, W, J out of range, or not zero at node 0.
-pub fn link_fault(input: &Input, i: usize) -> bool {
-    let node = input.node(i);
+pub fn link_fault(node: &Node, i: usize) -> bool {
     let link = [node.capacity, node.full_speed, node.wave_speed, node.jam];
     if i == 0 {
         return link != [0; 4];
     }
     let speeds_and_jam = 1..=WHOLE as u32;
     node.capacity > WHOLE as u32 || link[1..].iter().any(|word| !speeds_and_jam.contains(word))
+}
+
+/// Refusal 2: dropped capacity above F or drop density above J, or not zero at node 0.
+pub fn drop_fault(node: &Node, i: usize) -> bool {
+    if i == 0 {
+        return (node.dropped_capacity, node.drop_density) != (0, 0);
+    }
+    node.dropped_capacity > node.capacity || node.drop_density > node.jam
 }
 
 /// Refusal 3: identifier zero or an earlier node's, C or L out of range, or not zero at node N.

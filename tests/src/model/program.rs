@@ -2,7 +2,7 @@
 
 use super::convert::{rate_and_limit, setting_at};
 use super::files::{read_three, words_of};
-use super::{refusal, refuse_if, Input, Kind, List, Refusal, Rules, Setting, Size};
+use super::{refusal, refuse_if, Input, Kind, Kinds, List, Refusal, Rules, Setting, Size};
 
 pub const MOST_BYTES: usize = 65_536;
 
@@ -25,28 +25,30 @@ fn plan_text<R: Rules>(bytes: &[u8]) -> Result<String, Refusal> {
 }
 
 /// The input's size and its three files: 14 above 65,536 bytes, then N and K, then 14 unless the
-/// length is just that of the files, with demands of the kind that their own first block names.
+/// length is just that of the files, corridor and demands being of the kinds that their own first
+/// blocks name.
 pub fn three_files<R: Rules>(bytes: &[u8]) -> Result<(Size, [&[u8]; 3]), Refusal> {
     refuse_if(bytes.len() > MOST_BYTES, 14, 0, 0)?;
     let size = R::program_size(bytes)?;
-    let demands = R::kind_of_file(List::Demands, &bytes[Kind::Corridor.bytes(size)..]);
-    let ends = file_ends(size, demands);
+    let corridor = R::kind_of_file(List::Corridor, bytes);
+    let demands = R::kind_of_file(List::Demands, &bytes[corridor.bytes(size)..]);
+    let ends = file_ends(size, Kinds { corridor, demands });
     refuse_if(bytes.len() != ends[2], 14, 0, 0)?;
     Ok((size, [&bytes[..ends[0]], &bytes[ends[0]..ends[1]], &bytes[ends[1]..]]))
 }
 
-/// Where the corridor's, the demands' and the record's file end, with demands of that kind.
-pub fn file_ends(size: Size, demands: Kind) -> [usize; 3] {
-    let corridor_end = Kind::Corridor.bytes(size);
-    let demands_end = corridor_end + demands.bytes(size);
+/// Where the corridor's, the demands' and the record's file end, the first two of those kinds.
+pub fn file_ends(size: Size, kinds: Kinds) -> [usize; 3] {
+    let corridor_end = kinds.corridor.bytes(size);
+    let demands_end = corridor_end + kinds.demands.bytes(size);
     [corridor_end, demands_end, demands_end + Kind::Record.bytes(size)]
 }
 
-/// N is word 2 of the corridor's first block, K that of the demands' first block; N is judged
-/// before K is looked for.
+/// N is word 2 of the corridor's first block, K that of the demands' first block, which stands
+/// behind as many blocks as a corridor of its kind has; N is judged before K is looked for.
 pub fn program_size<R: Rules>(bytes: &[u8]) -> Result<Size, Refusal> {
     let n = word_two(bytes, 0)?;
-    let corridor_end = Kind::Corridor.bytes(R::size(n, 1)?);
+    let corridor_end = R::kind_of_file(List::Corridor, bytes).bytes(R::size(n, 1)?);
     R::size(n, word_two(bytes, corridor_end)?)
 }
 

@@ -2,12 +2,14 @@
 //! differs from the papers in just one of them.
 
 use super::{check, convert, files, lists};
-use super::{Input, Kind, List, Outcome, Refusal, Setting, Size, WHOLE};
+use super::{Input, Kind, List, Node, Outcome, Refusal, Setting, Size, WHOLE};
 
 /// One node at one step: all that rules 1 to 5 use, taken from the state at the step's start.
 #[derive(Clone, Copy, Debug)]
 pub struct NodeStep {
     pub capacity: u64,
+    pub dropped_capacity: u64,
+    pub drop_density: u64,
     pub full_speed: u64,
     pub ramp_capacity: u64,
     pub vehicles: u64,
@@ -24,6 +26,8 @@ impl NodeStep {
         let node = input.node(i);
         NodeStep {
             capacity: node.capacity.into(),
+            dropped_capacity: node.dropped_capacity.into(),
+            drop_density: node.drop_density.into(),
             full_speed: node.full_speed.into(),
             ramp_capacity: node.ramp_capacity.into(),
             vehicles: state[lists::RECORD_WORDS * i].into(),
@@ -64,9 +68,17 @@ pub trait Rules: Sync + Sized {
         list.kind_of_file(file)
     }
 
+    /// What a link may discharge: F up to its drop density, the dropped capacity above it.
+    fn discharge(at: &NodeStep) -> u64 {
+        if at.vehicles <= at.drop_density {
+            return at.capacity;
+        }
+        at.dropped_capacity
+    }
+
     /// Rule 1. Node 0 has no link: its n and F are zero, and so is D.
     fn sending(at: &NodeStep, limit: u64) -> u64 {
-        (at.vehicles * limit / WHOLE).min(at.capacity)
+        (at.vehicles * limit / WHOLE).min(Self::discharge(at))
     }
 
     /// Rule 2. What leaves by the off-ramp is rounded down, so the through part is not.
@@ -79,7 +91,7 @@ pub trait Rules: Sync + Sized {
         at.queue.min(at.ramp_capacity).min(rate)
     }
 
-    /// Rule 4 for one link.
+    /// Rule 4 for one link, which keeps F above its drop density too.
     fn receiving(input: &Input, state: &[u32], link: usize) -> u64 {
         let node = input.node(link);
         let vehicles = u64::from(state[lists::RECORD_WORDS * link]);
@@ -122,10 +134,16 @@ pub trait Rules: Sync + Sized {
         entries.map(|entry| u64::from(entry[0]) + u64::from(entry[1])).sum()
     }
 
+    /// Whether refusal 2 is due for the two words of node i's drop.
+    fn drop_fault(node: &Node, i: usize) -> bool {
+        lists::drop_fault(node, i)
+    }
+
     /// Whether refusal 2, 3 or 4 is due at node i.
     fn node_fault(number: u32, input: &Input, i: usize) -> bool {
+        let node = input.node(i);
         match number {
-            2 => lists::link_fault(input, i),
+            2 => lists::link_fault(&node, i) || Self::drop_fault(&node, i),
             3 => lists::ramp_fault(input, i),
             _ => lists::start_fault(input, i),
         }

@@ -1,10 +1,11 @@
-//! Cases with damage: words changed, flows moved by one, lists cut and extended, wrong N and K,
-//! demands of the other kind, records that break rules; and the mixes of cases that the tests run.
+//! Cases with damage: words changed, flows moved by one, lists cut and extended, wrong N and K, a
+//! corridor or demands of the other kind, records that break rules; and the mixes of cases that the
+//! tests run.
 
 use super::records::faulty_record;
 use super::sound::{sound_case, WordCase};
 use super::Random;
-use crate::model::lists::{test_input, MOST_LINKS, MOST_STEPS, NODE_WORDS};
+use crate::model::lists::{corridor_of, test_input, Node, MOST_LINKS, MOST_STEPS, NODE_WORDS};
 use crate::model::{Input, Kind, Quick, Size, WHOLE};
 
 /// A size with at most that many links and steps.
@@ -58,22 +59,24 @@ pub fn mixed_case(random: &mut Random, size: Size, short_ramps: bool) -> WordCas
 
 /// One kind of damage.
 fn damage(random: &mut Random, case: &mut WordCase) {
-    match random.below(34) {
+    match random.below(39) {
         0..=2 => change_words(random, &mut case.corridor),
         3 | 4 => change_words(random, &mut case.demands),
         5 | 6 => change_words(random, &mut case.plan),
         7 | 8 => change_words(random, &mut case.record),
-        9 => repeat_identifier(random, &mut case.corridor),
+        9 => repeat_identifier(random, case),
         10 | 11 => change_cost(random, &mut case.record),
         12 => cut_or_extend_one(random, case),
         13 => change_lent(random, case),
         14 => change_count(random, case),
         15 | 16 => change_state(random, case),
         17 => move_flow(random, case),
-        18 | 19 => overfill_start(random, &mut case.corridor),
+        18 | 19 => overfill_start(random, case),
         20 | 21 => change_fixed(random, case),
         22 | 23 => change_downstream(random, case),
-        24 | 25 => change_kind(random, case),
+        24 | 25 => change_demands_kind(random, case),
+        26..=28 => change_drop(random, case),
+        29 | 30 => change_corridor_kind(random, case),
         _ => propose_faulty(random, case),
     }
 }
@@ -87,12 +90,17 @@ fn change_words(random: &mut Random, words: &mut [u32]) {
     }
 }
 
+/// Where the words of some node begin, if the corridor has a whole one.
+fn some_node(random: &mut Random, case: &WordCase) -> Option<usize> {
+    let width = case.kinds.corridor.node_words();
+    let nodes = case.corridor.len().saturating_sub(1) / width;
+    (nodes > 0).then(|| 1 + width * random.below(nodes))
+}
+
 /// One node's identifier in the place of another's.
-fn repeat_identifier(random: &mut Random, corridor: &mut [u32]) {
-    let nodes = corridor.len().saturating_sub(1) / NODE_WORDS;
-    if nodes > 0 {
-        let (from, to) = (random.below(nodes), random.below(nodes));
-        corridor[1 + NODE_WORDS * to] = corridor[1 + NODE_WORDS * from];
+fn repeat_identifier(random: &mut Random, case: &mut WordCase) {
+    if let (Some(from), Some(to)) = (some_node(random, case), some_node(random, case)) {
+        case.corridor[to] = case.corridor[from];
     }
 }
 
@@ -178,13 +186,56 @@ fn change_state(random: &mut Random, case: &mut WordCase) {
 }
 
 /// One more vehicle than the jam, or one more in the queue than its limit, at the start.
-fn overfill_start(random: &mut Random, corridor: &mut [u32]) {
-    let nodes = corridor.len().saturating_sub(1) / NODE_WORDS;
-    if nodes > 0 {
-        let node = 1 + NODE_WORDS * random.below(nodes);
+fn overfill_start(random: &mut Random, case: &mut WordCase) {
+    if let Some(node) = some_node(random, case) {
         let (limit, start) = random.pick(&[(4, 7), (6, 8)]);
-        corridor[node + start] = corridor[node + limit].wrapping_add(1);
+        case.corridor[node + start] = case.corridor[node + limit].wrapping_add(1);
     }
+}
+
+/// Dropped capacity or drop density of some node one more than F or J, F being perhaps J or the
+/// most of all; or any word; or one that is not zero at node 0.
+fn change_drop(random: &mut Random, case: &mut WordCase) {
+    let drop = case.kinds.corridor == Kind::CapacityDrop;
+    let Some(node) = some_node(random, case).filter(|_| drop) else {
+        return;
+    };
+    let (bound, word) = random.pick(&[(1, NODE_WORDS), (4, NODE_WORDS + 1)]);
+    match random.below(6) {
+        0 => case.corridor[1 + word] = random.pick(&[1, WHOLE as u32]),
+        1 => case.corridor[node + word] = random.strange_word(case.corridor[node + word]),
+        _ => {
+            if node > 1 {
+                let (capacity, jam) = (case.corridor[node + 1], case.corridor[node + 4]);
+                case.corridor[node + 1] = random.pick(&[capacity, capacity, jam, WHOLE as u32]);
+            }
+            case.corridor[node + word] = case.corridor[node + bound].wrapping_add(1);
+        }
+    }
+}
+
+/// The corridor as a list of the other kind: each node without its last two words, or with two
+/// more.
+fn change_corridor_kind(random: &mut Random, case: &mut WordCase) {
+    let Some(input) = input_of(case) else {
+        return;
+    };
+    let nodes: Vec<Node> = (0..input.size.nodes()).map(|i| input.node(i)).collect();
+    let kind = match input.has_drop() {
+        true => Kind::Corridor,
+        false => Kind::CapacityDrop,
+    };
+    let most = random.pick(&[0, 100, WHOLE]);
+    let nodes = nodes.into_iter().map(|node| match random.one_in(2) {
+        true => node,
+        false => Node {
+            dropped_capacity: random.within(0, most).min(node.capacity.into()) as u32,
+            drop_density: random.within(0, most).min(node.jam.into()) as u32,
+            ..node
+        },
+    });
+    case.corridor = corridor_of(kind, &nodes.collect::<Vec<_>>());
+    case.kinds.corridor = kind;
 }
 
 /// A fixed zero, or a word of state 0, that is not what it should be.
@@ -220,16 +271,16 @@ fn change_downstream(random: &mut Random, case: &mut WordCase) {
 }
 
 /// The demands as a list of the other kind: without the last K words, or with K more.
-fn change_kind(random: &mut Random, case: &mut WordCase) {
+fn change_demands_kind(random: &mut Random, case: &mut WordCase) {
     let Some((size, shorter)) = input_of(case).map(|input| (input.size, input.has_downstream()))
     else {
         return;
     };
     if shorter {
-        case.demands_kind = Kind::Demands;
+        case.kinds.demands = Kind::Demands;
         return case.demands.truncate(size.demands());
     }
-    case.demands_kind = Kind::Downstream;
+    case.kinds.demands = Kind::Downstream;
     let most = random.pick(&[0, 100, WHOLE, WHOLE + 1]);
     case.demands.extend((0..size.steps).map(|_| random.within(0, most) as u32));
 }

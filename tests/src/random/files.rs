@@ -9,7 +9,7 @@ use crate::model::files::{file_bytes, words_of, write_blocks, BLOCK_BYTES, CHECK
 use crate::model::kinds::KINDS;
 use crate::model::lists::{MOST_LINKS, MOST_STEPS};
 use crate::model::program::{file_ends, MOST_BYTES};
-use crate::model::{Kind, Quick, Rules, Size};
+use crate::model::{Kind, Kinds, Quick, Rules, Size};
 
 /// What a reader and a writer of one list take.
 #[derive(Clone, Debug)]
@@ -61,8 +61,8 @@ impl ThreeFiles {
         ThreeFiles {
             n,
             k,
-            corridor: file_of(Kind::Corridor, &case.corridor),
-            demands: file_of(case.demands_kind, &case.demands),
+            corridor: file_of(case.kinds.corridor, &case.corridor),
+            demands: file_of(case.kinds.demands, &case.demands),
             record: file_of(Kind::Record, &case.record),
             lent_plan_file: file_bytes(case.plan.len()),
         }
@@ -140,10 +140,13 @@ fn mix_kinds(random: &mut Random, case: &mut FileCase) {
     case.lent_file = random.pick(kinds).bytes(size);
     case.words.resize(random.pick(kinds).words(size), 0);
     let said = random.pick(kinds);
-    match random.below(4) {
+    let blocks = case.file.len() / BLOCK_BYTES;
+    match random.below(6) {
         0 => name_kind(&mut case.file, said as u32, false),
         1 => name_kind(&mut case.file, said as u32, true),
         2 => case.file.resize(said.bytes(size), 0),
+        3 => case.file.truncate(random.below(BLOCK_BYTES)),
+        4 if blocks > 0 => change_block(&mut case.file, random.below(blocks), 0, |_| said as u32),
         _ => {}
     }
 }
@@ -171,7 +174,7 @@ fn damage_file(random: &mut Random, file: &mut Vec<u8>) {
         return file.resize(random.pick(&[1, 511, 512]), 0);
     }
     let block = random.below(blocks);
-    match random.below(15) {
+    match random.below(16) {
         0 | 1 => flip_bit(random, file),
         2 => file[BLOCK_BYTES * block + 4 * random.below(2)] ^= 1 << random.below(8),
         3 | 4 => change_block(file, block, 0, |kind| random.strange_word(kind)),
@@ -180,9 +183,12 @@ fn damage_file(random: &mut Random, file: &mut Vec<u8>) {
         8 => change_block(file, blocks - 1, CHECK - 1, |word| random.strange_word(word)),
         9 => change_block(file, block, random.below(CHECK), |word| random.strange_word(word)),
         10 => file.copy_within(BLOCK_BYTES * block..BLOCK_BYTES * (block + 1), 0),
-        11 => name_kind(file, random.pick(&[2, 5]), random.one_in(2)),
-        12 => name_kind(file, random.within(0, 12) as u32, random.one_in(2)),
-        13 => file.truncate(random.below(9)),
+        11 | 12 => name_kind(file, random.pick(&[1, 2, 5, 10]), random.one_in(2)),
+        13 => {
+            let more = random.pick(&[0, 0, 0, 256, 65_536, 1 << 31]);
+            name_kind(file, random.within(0, 12) as u32 + more, random.one_in(2));
+        }
+        14 => file.truncate(random.below(9)),
         _ => cut_or_extend(random, file),
     }
 }
@@ -246,7 +252,7 @@ pub fn program_input(random: &mut Random) -> Vec<u8> {
     let three = sized_three_files(random, size);
     let mut input = three.files().concat();
     if random.one_in(8) {
-        damage_input(random, &mut input, size);
+        damage_input(random, &mut input, three.corridor.len());
     }
     input
 }
@@ -259,17 +265,16 @@ fn fitting_size(random: &mut Random) -> Size {
         let any_steps = random.within(1, most_steps);
         let steps = random.pick(&[any_steps, most_steps]) as u32;
         let size = Size::new(links, steps).expect("within limits");
-        if file_ends(size, Kind::Downstream)[2] <= MOST_BYTES {
+        if file_ends(size, Kinds::NEWEST)[2] <= MOST_BYTES {
             return size;
         }
     }
 }
 
-/// Damage to the input as a whole: N, K or the demands' kind changed, cut at any byte, extended, far
-/// too long.
-fn damage_input(random: &mut Random, input: &mut Vec<u8>, size: Size) {
-    let demands = Kind::Corridor.bytes(size);
-    match random.below(8) {
+/// Damage to the input as a whole: N, K or the kind of corridor or demands changed, cut at any
+/// byte, extended, far too long. The demands' file begins at byte `demands`.
+fn damage_input(random: &mut Random, input: &mut Vec<u8>, demands: usize) {
+    match random.below(10) {
         0 => change_input_word(random, input, 8),
         1 => change_input_word(random, input, demands + 8),
         2 => input.truncate(random.below(input.len() + 1)),
@@ -277,6 +282,8 @@ fn damage_input(random: &mut Random, input: &mut Vec<u8>, size: Size) {
         4 => input.truncate(random.below(16)),
         5 => change_input_word(random, input, demands),
         6 if input.len() > demands => input[demands] = random.pick(&[2, 5]),
+        7 => change_input_word(random, input, 0),
+        8 if !input.is_empty() => input[0] = random.pick(&[1, 10]),
         _ => input.resize(random.pick(&[MOST_BYTES - 1, MOST_BYTES, MOST_BYTES + 1, 100_000]), 0),
     }
 }

@@ -3,14 +3,15 @@
 
 use super::records::{free_record, record_of_plan};
 use super::Random;
-use crate::model::lists::{corridor_of, Node, NODE_WORDS};
-use crate::model::{Input, Kind, List, Size, MOST_QUEUE_LIMIT, WHOLE};
+use crate::capacity_drop::discharge;
+use crate::model::lists::{corridor_of, Node};
+use crate::model::{Input, Kind, Kinds, List, Size, MOST_QUEUE_LIMIT, WHOLE};
 
 /// All lists that the calls on words take, and the lengths of the lists lent to them.
 #[derive(Clone, Debug)]
 pub struct WordCase {
-    /// What the demands were made as; the calls go by their length.
-    pub demands_kind: Kind,
+    /// What corridor and demands were made as; the calls go by their lengths.
+    pub kinds: Kinds,
     pub corridor: Vec<u32>,
     pub demands: Vec<u32>,
     pub plan: Vec<u32>,
@@ -23,8 +24,8 @@ impl WordCase {
     /// The lists, each as the kind that it was made as.
     pub fn by_kind(&self) -> [(Kind, &Vec<u32>); 4] {
         [
-            (Kind::Corridor, &self.corridor),
-            (self.demands_kind, &self.demands),
+            (self.kinds.corridor, &self.corridor),
+            (self.kinds.demands, &self.demands),
             (Kind::Record, &self.record),
             (Kind::Plan, &self.plan),
         ]
@@ -81,24 +82,20 @@ fn usual_flow(random: &mut Random) -> u64 {
     random.pick(&[1, 4, 60, 1_000, 20_000, WHOLE])
 }
 
-/// A case with sound lists, its demands of either kind.
+/// A case with sound lists, its corridor and its demands of either kind.
 pub fn sound_case(random: &mut Random, size: Size, short_ramps: bool) -> WordCase {
+    let corridor = random.pick(List::Corridor.kinds());
     let demands = random.pick(List::Demands.kinds());
-    sound_case_of(random, size, demands, short_ramps)
+    sound_case_of(random, size, Kinds { corridor, demands }, short_ramps)
 }
 
-/// The same with demands of that kind: the record is the plan's, or one with flows chosen freely.
-pub fn sound_case_of(
-    random: &mut Random,
-    size: Size,
-    demands_kind: Kind,
-    short_ramps: bool,
-) -> WordCase {
+/// The same with those kinds: the record is the plan's, or one with flows chosen freely.
+pub fn sound_case_of(random: &mut Random, size: Size, kinds: Kinds, short_ramps: bool) -> WordCase {
     let style = style(random, short_ramps);
-    let corridor = corridor(random, size, style);
+    let corridor = corridor_of(kinds.corridor, &nodes(random, size, style));
     let mut demands = demands(random, size, style);
-    if demands_kind == Kind::Downstream {
-        let end = Node::from_words(&corridor[corridor.len() - NODE_WORDS..]);
+    if kinds.demands == Kind::Downstream {
+        let end = Node::from_words(&corridor[corridor.len() - kinds.corridor.node_words()..]);
         demands.extend(downstream(random, size, style, &end));
     }
     let input = Input::new(&corridor, &demands).expect("made to these lengths");
@@ -108,7 +105,7 @@ pub fn sound_case_of(
         false => free_record(random, &input),
     };
     let (lent_record, lent_plan) = (size.record(), size.plan());
-    WordCase { demands_kind, corridor, demands, plan, record, lent_record, lent_plan }
+    WordCase { kinds, corridor, demands, plan, record, lent_record, lent_plan }
 }
 
 /// A capacity or arrivals: now and then nothing, one, the most, or the most of all.
@@ -136,6 +133,11 @@ fn capacity(random: &mut Random, style: Style) -> u64 {
         Values::Any => amount(random, style.flow),
         Values::Greatest => mostly_whole(random),
     }
+}
+
+fn ramp_capacity(random: &mut Random, style: Style) -> u64 {
+    let longest = if style.short_ramps { 1_000 } else { WHOLE };
+    capacity(random, style).min(longest)
 }
 
 /// A good part of a section per step; among any values also the least.
@@ -196,21 +198,46 @@ fn queue(random: &mut Random, size: Size, queue_limit: u64, style: Style) -> u64
     }
 }
 
+/// From nothing to all of a link's capacity, often one of these; where traffic keeps moving, at
+/// least half of it.
+fn dropped_capacity(random: &mut Random, capacity: u64, style: Style) -> u64 {
+    match (style.values, random.below(8)) {
+        (_, 0) => capacity,
+        (Values::Moderate, _) => random.within(capacity / 2, capacity),
+        (_, 1) => 0,
+        (_, 2) => capacity.saturating_sub(1),
+        _ => random.within(0, capacity),
+    }
+}
+
+/// Often what the link starts with, or one more or less; now and then none, the jam, or anything.
+fn drop_density(random: &mut Random, jam: u64, vehicles: u64) -> u64 {
+    match random.below(8) {
+        0 => 0,
+        1 => jam,
+        2..=4 => (vehicles + random.within(0, 2)).saturating_sub(1).min(jam),
+        5 => random.within(0, vehicles),
+        _ => random.within(0, jam),
+    }
+}
+
 /// The link that ends at a node and the ramp that starts there, as if both were there.
 fn node(random: &mut Random, size: Size, style: Style) -> Node {
-    let jam = jam(random, style);
+    let (capacity, jam) = (capacity(random, style), jam(random, style));
+    let vehicles = vehicles(random, jam, style.filling);
     let queue_limit = queue_limit(random, size, style);
-    let longest_ramp = if style.short_ramps { 1_000 } else { WHOLE };
     Node {
         identifier: 0,
-        capacity: capacity(random, style) as u32,
+        capacity: capacity as u32,
         full_speed: speed(random, style) as u32,
         wave_speed: speed(random, style) as u32,
         jam: jam as u32,
-        ramp_capacity: capacity(random, style).min(longest_ramp) as u32,
+        ramp_capacity: ramp_capacity(random, style) as u32,
         queue_limit: queue_limit as u32,
-        start_vehicles: vehicles(random, jam, style.filling) as u32,
+        start_vehicles: vehicles as u32,
         start_queue: queue(random, size, queue_limit, style) as u32,
+        dropped_capacity: dropped_capacity(random, capacity, style) as u32,
+        drop_density: drop_density(random, jam, vehicles) as u32,
     }
 }
 
@@ -219,7 +246,7 @@ fn identifier(first: u32, i: usize) -> u32 {
     first.wrapping_add(i as u32).wrapping_mul(0x9E37_79B1)
 }
 
-fn corridor(random: &mut Random, size: Size, style: Style) -> Vec<u32> {
+fn nodes(random: &mut Random, size: Size, style: Style) -> Vec<Node> {
     let first = random.within(1, 1_000_000) as u32;
     let mut nodes: Vec<Node> = (0..size.nodes()).map(|_| node(random, size, style)).collect();
     for (i, node) in nodes.iter_mut().enumerate() {
@@ -228,9 +255,10 @@ fn corridor(random: &mut Random, size: Size, style: Style) -> Vec<u32> {
     let entry = &mut nodes[0];
     (entry.capacity, entry.full_speed, entry.wave_speed) = (0, 0, 0);
     (entry.jam, entry.start_vehicles) = (0, 0);
+    (entry.dropped_capacity, entry.drop_density) = (0, 0);
     let end = &mut nodes[size.links];
     (end.ramp_capacity, end.queue_limit, end.start_queue) = (0, 0, 0);
-    corridor_of(&nodes)
+    nodes
 }
 
 fn arrivals(random: &mut Random, style: Style) -> u64 {
@@ -278,7 +306,7 @@ fn downstream(random: &mut Random, size: Size, style: Style, end: &Node) -> Vec<
 /// Now and then nothing or the most of all, mostly near what link N sends or below it, so that it
 /// often binds; where traffic keeps moving, at least half of what the link can send.
 fn downstream_word(random: &mut Random, style: Style, end: &Node) -> u64 {
-    let capacity = u64::from(end.capacity);
+    let capacity = discharge(end, end.start_vehicles);
     let at_full_speed = u64::from(end.start_vehicles) * u64::from(end.full_speed) / WHOLE;
     let sending = at_full_speed.min(capacity);
     let word = match (style.values, random.below(8)) {

@@ -1,149 +1,138 @@
-//! Counts of what the two kinds of demands bring about: answers by kind, what happens at the end of
-//! link N, refusals for what may leave it, and kinds mixed in what a reader is given.
+//! Counts by the kinds of corridor and demands: the answers of each call, which kinds go together,
+//! and kinds mixed in what a reader is given.
 
 use super::Tally;
-use crate::compare::CALLS_ON_LISTS;
+use crate::compare::{CALLS_ON_FILES, CALLS_ON_LISTS};
 use crate::model::files::{read_three, BLOCK_BYTES};
-use crate::model::{check, Input, Kind, List, NodeStep, Quick, Rules, Size, WHOLE};
+use crate::model::{Input, Kind, Kinds, List, Quick, Size};
 use crate::random::files::FileCase;
 
-/// Names of the calls on word lists, or on nodes, by the kind of the demands: 2, then 5.
-pub const CALLS_BY_KIND: [[&str; 4]; 2] = [
+/// The kinds that answers are counted by.
+const COUNTED: [Kind; 4] = [Kind::Corridor, Kind::CapacityDrop, Kind::Demands, Kind::Downstream];
+
+/// Names of the calls on word lists, or on nodes, by the kind of the corridor, 1 or 10, and by that
+/// of the demands, 2 or 5.
+pub const CALLS_BY_KIND: [[&str; 4]; 4] = [
+    ["simulate kind 1", "check kind 1", "convert kind 1", "normal kind 1"],
+    ["simulate kind 10", "check kind 10", "convert kind 10", "normal kind 10"],
     ["simulate kind 2", "check kind 2", "convert kind 2", "normal kind 2"],
     ["simulate kind 5", "check kind 5", "convert kind 5", "normal kind 5"],
 ];
 
-/// Names of the two calls on files, by the kind that the demands' file says it is.
-pub const CALLS_ON_FILES_BY_KIND: [[&str; 2]; 2] = [
+/// Names of the two calls on files, by the kinds that the files say they are.
+pub const CALLS_ON_FILES_BY_KIND: [[&str; 2]; 4] = [
+    ["check files kind 1", "convert files kind 1"],
+    ["check files kind 10", "convert files kind 10"],
     ["check files kind 2", "convert files kind 2"],
     ["check files kind 5", "convert files kind 5"],
 ];
 
-/// What can happen at the end of link N with demands of kind 5.
-pub const AT_LINK_N: [&str; 4] = [
-    "link N sends less than may leave it",
-    "link N sends just what may leave it",
-    "link N sends more than may leave it",
-    "link N sends and nothing may leave it",
+/// The kinds of corridor and demands that go together, for any call.
+pub const KINDS_TOGETHER: [[&str; 2]; 2] =
+    [["kinds 1 and 2", "kinds 1 and 5"], ["kinds 10 and 2", "kinds 10 and 5"]];
+
+/// How kinds can be mixed in what the reader of a corridor, or of demands, is given, with a good N
+/// and K.
+pub const MIXED_KINDS: [[&str; 3]; 2] = [
+    [
+        "corridor lent of the other kind's length",
+        "corridor made as one kind says it is the other",
+        "corridor that says it is kind 10 ends in its first block",
+    ],
+    [
+        "demands lent of the other kind's length",
+        "demands made as one kind say they are the other",
+        "demands that say they are kind 5 end in their first block",
+    ],
 ];
 
-/// The settings of node N where less may leave link N than it can send.
-pub const WHERE_LESS_MAY_LEAVE: [&str; 2] =
-    ["full at node N where less may leave", "held at node N where less may leave"];
+/// The place of a kind among names by kind.
+pub fn by_kind(kind: Kind) -> usize {
+    COUNTED.iter().position(|&counted| counted == kind).expect("a corridor's or demands' kind")
+}
 
-/// What demands of kind 5 bring about in an answer: at node N a flow above the word of its step, the
-/// word itself out of range, and such a word beside other faults of the demands.
-pub const DOWNSTREAM_REFUSALS: [&str; 4] = [
-    "flow refused by 9 at node N",
-    "word refused by 5",
-    "word refused by 5 before a later Q or b",
-    "Q or b refused by 5 before a word",
-];
-
-/// How kinds can be mixed in what a reader is given, with a good N and K.
-pub const MIXED_KINDS: [&str; 3] = [
-    "list lent of the other kind's length",
-    "file made as one kind says it is the other",
-    "file that says it is kind 5 ends in its first block",
-];
+/// The kinds that the files of corridor, demands and record say that the first two are.
+pub fn kinds_of_files(files: [&[u8]; 3]) -> Kinds {
+    Kinds {
+        corridor: List::Corridor.kind_of_file(files[0]),
+        demands: List::Demands.kind_of_file(files[1]),
+    }
+}
 
 impl Tally {
-    /// Counts those of the names that were seen.
-    fn add_seen<const N: usize>(&mut self, names: [&'static str; N], seen: [bool; N]) {
-        for (name, seen) in names.into_iter().zip(seen) {
-            self.add(name, 0, seen.into());
-        }
+    /// Counts an answer for the kinds of both lists.
+    fn answer_for_kinds(
+        &mut self,
+        kinds: Kinds,
+        name: impl Fn(usize) -> &'static str,
+        answer: u32,
+    ) {
+        let [corridor, demands] = [kinds.corridor, kinds.demands].map(by_kind);
+        self.answer(name(corridor), answer);
+        self.answer(name(demands), answer);
+        self.answer(KINDS_TOGETHER[corridor][demands - 2], answer);
     }
 
     /// Counts the answer of a call on lists, by its place among them, once for the call and once for
-    /// the kind that the demands were made as.
-    pub fn answer_on_lists(&mut self, call: usize, demands: Kind, answer: u32) {
+    /// each of the kinds that corridor and demands were made as.
+    pub fn answer_on_lists(&mut self, call: usize, kinds: Kinds, answer: u32) {
         self.answer(CALLS_ON_LISTS[call], answer);
-        self.answer(CALLS_BY_KIND[usize::from(demands == Kind::Downstream)][call], answer);
+        self.answer_for_kinds(kinds, |kind| CALLS_BY_KIND[kind][call], answer);
     }
 
-    pub fn expect_downstream_refusals(&self, at_least: u64) {
-        DOWNSTREAM_REFUSALS.iter().for_each(|name| self.expect(name, &[0], at_least));
+    /// The same for a call on files.
+    pub fn answer_on_files(&mut self, call: usize, files: [&[u8]; 3], answer: u32) {
+        self.answer(CALLS_ON_FILES[call], answer);
+        let kinds = kinds_of_files(files);
+        self.answer_for_kinds(kinds, |kind| CALLS_ON_FILES_BY_KIND[kind][call], answer);
     }
 
-    /// Counts what happened at the end of link N in an accepted simulation.
-    pub(super) fn at_link_n(&mut self, input: &Input, plan: &[u32], record: &[u32]) {
-        let end = input.size.links;
-        for k in (0..input.size.steps).filter(|_| input.has_downstream()) {
-            let at = NodeStep::new::<Quick>(input, check::state(input, record, k), k, end);
-            let limit = plan[input.size.plan_place(k, end) + 1];
-            let (sending, word) = (Quick::sending(&at, limit.into()), at.supply);
-            let stopped = sending > 0 && word == 0;
-            self.add_seen(AT_LINK_N, [sending < word, sending == word, sending > word, stopped]);
-        }
+    /// The same for the program, once its three files are told apart.
+    pub fn answer_of_program(&mut self, files: [&[u8]; 3], answer: u32) {
+        self.answer_for_kinds(kinds_of_files(files), |kind| CALLS_BY_KIND[kind][3], answer);
     }
 
-    /// Counts the settings of node N in a plan that a converter gave for a record, where less may
-    /// leave link N than it can send.
-    pub(super) fn where_less_may_leave(&mut self, input: &Input, record: &[u32], plan: &[u32]) {
-        let end = input.size.links;
-        for k in 0..input.size.steps {
-            let at = NodeStep::new::<Quick>(input, check::state(input, record, k), k, end);
-            let less = at.supply < Quick::sending(&at, at.full_speed);
-            let full = u64::from(plan[input.size.plan_place(k, end) + 1]) == at.full_speed;
-            self.add_seen(WHERE_LESS_MAY_LEAVE, [less && full, less && !full]);
-        }
-    }
-
-    /// Counts an answer of the checker's that only demands of kind 5 bring about.
-    pub fn downstream_refusals(&mut self, input: &Input, answer: u32) {
-        let (k, i) = ((answer / 65_536) as usize, (answer / 256 % 256) as usize);
-        match answer % 256 {
-            9 => self.add(DOWNSTREAM_REFUSALS[0], 0, (i == input.size.links).into()),
-            5 => self.add_seen(DOWNSTREAM_REFUSALS, demand_refusal(input, k, i)),
-            _ => {}
-        }
+    /// Counts an answer of the checker's that only the newer kinds bring about.
+    pub fn refusals_by_kind(&mut self, input: &Input, record: &[u32], answer: u32) {
+        self.downstream_refusals(input, answer);
+        self.drop_refusals(input, record, answer);
     }
 
     /// The same for files, which are read once more where the answer tells of their words.
-    pub fn downstream_refusals_of_files(&mut self, size: Size, files: [&[u8]; 3], answer: u32) {
-        if ![5, 9].contains(&(answer % 256)) {
+    pub fn refusals_of_files_by_kind(&mut self, size: Size, files: [&[u8]; 3], answer: u32) {
+        if ![2, 5, 8, 9].contains(&(answer % 256)) {
             return;
         }
-        if let Ok([corridor, demands, _]) = read_three::<Quick>(size, files) {
+        if let Ok([corridor, demands, record]) = read_three::<Quick>(size, files) {
             let input = Input::new(&corridor, &demands).expect("of the lengths that were read");
-            self.downstream_refusals(&input, answer);
+            self.refusals_by_kind(&input, &record, answer);
         }
     }
 
-    /// Counts the kinds that are mixed in a reader's case.
+    pub fn expect_refusals_by_kind(&self, at_least: u64) {
+        self.expect_downstream_refusals(at_least);
+        self.expect_drop_refusals(at_least);
+    }
+
+    /// Counts the kinds that are mixed in a reader's case; record and plan come in one kind.
     pub fn mixed_kinds(&mut self, case: &FileCase) {
-        let Ok(size) = Size::new(case.n, case.k) else {
+        let list = case.kind.list();
+        let (Ok(size), Some(names)) = (Size::new(case.n, case.k), MIXED_KINDS.get(list as usize))
+        else {
             return;
         };
-        let list = case.kind.list();
         let said = list.kind_of_file(&case.file);
         let lent = list.kind_of_length(size, case.lent_words);
         let cut_short = case.file.len() < BLOCK_BYTES;
-        self.add_seen(
-            MIXED_KINDS,
-            [
-                lent.is_ok_and(|lent| lent != said),
-                said != case.kind,
-                said == Kind::Downstream && cut_short,
-            ],
-        );
+        let seen = [
+            lent.is_ok_and(|lent| lent != said),
+            said != case.kind,
+            said != list.kinds()[0] && cut_short,
+        ];
+        self.add_seen(*names, [seen]);
     }
-}
 
-/// The place of a demands' file's kind among names by kind.
-pub fn kind_of_demands(file: &[u8]) -> usize {
-    usize::from(List::Demands.kind_of_file(file) == Kind::Downstream)
-}
-
-/// Which of the refusals but the first a refusal by 5 at a place is.
-fn demand_refusal(input: &Input, k: usize, i: usize) -> [bool; DOWNSTREAM_REFUSALS.len()] {
-    let zero = (input.arrivals(k, i), input.split(k, i)) == (0, 0);
-    let by_word = i == input.size.links && zero;
-    let later = (k + 1..input.size.steps).any(|k| {
-        let mut nodes = 0..input.size.nodes();
-        nodes.any(|i| input.arrivals(k, i) > WHOLE || input.split(k, i) > WHOLE)
-    });
-    let some_word = (k..input.size.steps).any(|k| input.downstream(k) > WHOLE);
-    [false, by_word, by_word && later, !by_word && some_word]
+    pub fn expect_mixed_kinds(&self, at_least: u64) {
+        MIXED_KINDS.as_flattened().iter().for_each(|name| self.expect(name, &[0], at_least));
+    }
 }

@@ -1,7 +1,7 @@
 //! Wrong block files: the check word, the order of a reader's tests, tests left out, counts in too
 //! few bits, and wrong uses of the readers by the two calls on files.
 
-use super::wrong;
+use super::{file_but_of, length_but_of, wrong};
 use tests::calls::FileCalls;
 use tests::model::files::{block_fault, read_list, words_of, BLOCK_BYTES};
 use tests::model::{answer, refusal, refuse_if, Kind, List, Quick, Refusal, Rules, Size};
@@ -116,56 +116,116 @@ wrong! { variants: FileCalls;
 
     /// Word 0 of 5 is any other value, as before there was such a kind.
     FiveReadAsTwo {
-        fn kind_of_file(list: List, _: &[u8]) -> Kind {
-            list.kinds()[0]
+        fn kind_of_file(list: List, file: &[u8]) -> Kind {
+            file_but_of(Kind::Downstream, list, file)
         }
     }
 
-    /// Word 0 of any other value is the newest kind.
-    OthersReadAsNewest {
+    /// Word 0 of 10 is any other value, as before there was such a kind.
+    TenReadAsOne {
         fn kind_of_file(list: List, file: &[u8]) -> Kind {
-            let newest = list.kinds()[list.kinds().len() - 1];
-            let oldest = file.starts_with(&(list.kinds()[0] as u32).to_le_bytes());
-            if oldest { list.kinds()[0] } else { newest }
+            file_but_of(Kind::CapacityDrop, list, file)
         }
     }
 
-    /// Word 0 is looked at only where its block is whole.
-    KindOfWholeBlocksOnly {
+    OtherDemandsReadAsFive {
         fn kind_of_file(list: List, file: &[u8]) -> Kind {
-            list.kind_of_file(if file.len() < BLOCK_BYTES { &[] } else { file })
+            others_read_as_newest(List::Demands, list, file)
         }
     }
 
-    /// One byte of word 0 is looked at.
-    KindInOneByte {
+    OtherCorridorsReadAsTen {
         fn kind_of_file(list: List, file: &[u8]) -> Kind {
-            list.kind_of_file(&file.first().map_or([0; 4], |&byte| [byte, 0, 0, 0]))
+            others_read_as_newest(List::Corridor, list, file)
+        }
+    }
+
+    DemandsKindOfWholeBlocksOnly {
+        fn kind_of_file(list: List, file: &[u8]) -> Kind {
+            kind_of_whole_blocks(List::Demands, list, file)
+        }
+    }
+
+    CorridorKindOfWholeBlocksOnly {
+        fn kind_of_file(list: List, file: &[u8]) -> Kind {
+            kind_of_whole_blocks(List::Corridor, list, file)
+        }
+    }
+
+    DemandsKindInOneByte {
+        fn kind_of_file(list: List, file: &[u8]) -> Kind {
+            kind_in_one_byte(List::Demands, list, file)
+        }
+    }
+
+    CorridorKindInOneByte {
+        fn kind_of_file(list: List, file: &[u8]) -> Kind {
+            kind_in_one_byte(List::Corridor, list, file)
         }
     }
 
     /// Blocks of kind 2 are let pass in a file of kind 5.
     TwoTakenInFive {
         fn read_list(kind: Kind, size: Size, file: &[u8]) -> Result<Vec<u32>, Refusal> {
-            match Quick::read_list(kind, size, file) {
-                Err(Refusal { number: 16, row, .. })
-                    if kind == Kind::Downstream && file[BLOCK_BYTES * row as usize] == 2 =>
-                {
-                    Ok(untested(kind, size, file))
-                }
-                result => result,
-            }
+            oldest_taken_in(Kind::Downstream, kind, size, file)
+        }
+    }
+
+    /// Blocks of kind 1 are let pass in a file of kind 10.
+    OneTakenInTen {
+        fn read_list(kind: Kind, size: Size, file: &[u8]) -> Result<Vec<u32>, Refusal> {
+            oldest_taken_in(Kind::CapacityDrop, kind, size, file)
         }
     }
 
     /// A list of kind 5's length cannot be written.
     FiveNotWritten {
         fn kind_of_length(list: List, size: Size, words: usize) -> Result<Kind, Refusal> {
-            list.kind_of_length(size, words).and_then(|kind| match kind {
-                Kind::Downstream => Err(refusal(1, 0, 0)),
-                _ => Ok(kind),
-            })
+            length_but_of(Kind::Downstream, list, size, words)
         }
+    }
+
+    /// A list of kind 10's length cannot be written.
+    TenNotWritten {
+        fn kind_of_length(list: List, size: Size, words: usize) -> Result<Kind, Refusal> {
+            length_but_of(Kind::CapacityDrop, list, size, words)
+        }
+    }
+}
+
+/// Word 0 of any other value is the newest kind, in files of one list.
+fn others_read_as_newest(wrong: List, list: List, file: &[u8]) -> Kind {
+    let oldest = file.starts_with(&(list.kinds()[0] as u32).to_le_bytes());
+    match list == wrong && !oldest {
+        true => list.kinds()[1],
+        false => list.kind_of_file(file),
+    }
+}
+
+/// Word 0 is looked at only where its block is whole, in files of one list.
+fn kind_of_whole_blocks(wrong: List, list: List, file: &[u8]) -> Kind {
+    let cut_short = list == wrong && file.len() < BLOCK_BYTES;
+    list.kind_of_file(if cut_short { &[] } else { file })
+}
+
+/// One byte of word 0 is looked at, in files of one list.
+fn kind_in_one_byte(wrong: List, list: List, file: &[u8]) -> Kind {
+    match file.first() {
+        Some(&byte) if list == wrong => list.kind_of_file(&[byte, 0, 0, 0]),
+        _ => list.kind_of_file(file),
+    }
+}
+
+/// Blocks of its list's oldest kind are let pass in a file of one kind.
+fn oldest_taken_in(wrong: Kind, kind: Kind, size: Size, file: &[u8]) -> Result<Vec<u32>, Refusal> {
+    let oldest = kind.list().kinds()[0] as u8;
+    match Quick::read_list(kind, size, file) {
+        Err(Refusal { number: 16, row, .. })
+            if kind == wrong && file[BLOCK_BYTES * row as usize] == oldest =>
+        {
+            Ok(untested(kind, size, file))
+        }
+        result => result,
     }
 }
 
@@ -180,9 +240,9 @@ enum Wrong {
     RecordReadFirst,
     PlanFileWrittenOnRefusal,
     PlanFileLengthLast,
-    LentLengthChooses,
-    OtherKindsLengthLent,
-    WrittenAsTwo,
+    LentLengthChooses(List),
+    OtherKindsLengthLent(List),
+    WrittenAsOldest(List),
 }
 
 use Wrong::*;
@@ -207,7 +267,7 @@ impl Wrong {
     ) -> Result<(), Refusal> {
         let lent = list.kind_of_length(size, words.len())?;
         let kind = match self {
-            LentLengthChooses => lent,
+            LentLengthChooses(_) => lent,
             _ => list.kind_of_file(file),
         };
         let read = Quick::read_list(kind, size, file)?;
@@ -220,8 +280,13 @@ impl Wrong {
 impl FileCalls for Wrong {
     fn read(&self, list: List, n: u32, k: u32, file: &[u8], words: &mut [u32]) -> u32 {
         let (n, k) = self.counts(list, n, k);
-        if let (LentLengthChooses | OtherKindsLengthLent, Ok(size)) = (self, Size::new(n, k)) {
-            return answer(self.read_by_length(list, size, file, words));
+        match (self, Size::new(n, k)) {
+            (LentLengthChooses(wrong) | OtherKindsLengthLent(wrong), Ok(size))
+                if *wrong == list =>
+            {
+                return answer(self.read_by_length(list, size, file, words));
+            }
+            _ => {}
         }
         let answer = Quick.read(list, n, k, file, words);
         if matches!(self, ReaderWritesOnRefusal) && answer % 256 >= 15 {
@@ -237,8 +302,11 @@ impl FileCalls for Wrong {
             words[0] = n;
         }
         let answer = Quick.write(list, n, k, &words, file);
-        if let (WrittenAsTwo, List::Demands, 0) = (self, list, answer) {
-            name_kind(file, 2, true);
+        match (self, answer) {
+            (WrittenAsOldest(wrong), 0) if *wrong == list => {
+                name_kind(file, list.kinds()[0] as u32, true)
+            }
+            _ => {}
         }
         answer
     }
@@ -287,8 +355,11 @@ pub fn call_variants() -> Vec<(&'static str, &'static dyn FileCalls)> {
         ("RecordReadFirst", &RecordReadFirst),
         ("PlanFileWrittenOnRefusal", &PlanFileWrittenOnRefusal),
         ("PlanFileLengthLast", &PlanFileLengthLast),
-        ("LentLengthChooses", &LentLengthChooses),
-        ("OtherKindsLengthLent", &OtherKindsLengthLent),
-        ("WrittenAsTwo", &WrittenAsTwo),
+        ("LentLengthChooses for corridors", &LentLengthChooses(List::Corridor)),
+        ("LentLengthChooses for demands", &LentLengthChooses(List::Demands)),
+        ("OtherKindsLengthLent for corridors", &OtherKindsLengthLent(List::Corridor)),
+        ("OtherKindsLengthLent for demands", &OtherKindsLengthLent(List::Demands)),
+        ("WrittenAsOldest for corridors", &WrittenAsOldest(List::Corridor)),
+        ("WrittenAsOldest for demands", &WrittenAsOldest(List::Demands)),
     ]
 }

@@ -1,6 +1,7 @@
 //! Shows that the comparisons bite: each deliberately wrong variant of the model is run against the
 //! model by the very comparisons that the host is run by, and must be found out.
 
+mod capacity_drop;
 mod files;
 mod limits;
 mod outputs;
@@ -11,7 +12,7 @@ mod steps;
 
 use tests::calls::{FileCalls, Program, WordCalls};
 use tests::compare::{compare_file, compare_program, compare_three, compare_words, Series};
-use tests::model::{Paper, Quick};
+use tests::model::{refuse_if, Kind, List, Paper, Quick, Refusal, Size};
 use tests::random::damage::small_case;
 use tests::random::files::{file_case, program_input, three_files};
 use tests::tally::Tally;
@@ -33,6 +34,21 @@ macro_rules! wrong {
     };
 }
 pub(crate) use wrong;
+
+/// The kind of a list's length, where lists of one kind are refused for theirs.
+fn length_but_of(refused: Kind, list: List, size: Size, words: usize) -> Result<Kind, Refusal> {
+    let kind = list.kind_of_length(size, words)?;
+    refuse_if(kind == refused, 1, 0, 0)?;
+    Ok(kind)
+}
+
+/// The kind of a file, where one kind is not known and read as the oldest of its list.
+fn file_but_of(unknown: Kind, list: List, file: &[u8]) -> Kind {
+    match list.kind_of_file(file) {
+        kind if kind == unknown => list.kinds()[0],
+        kind => kind,
+    }
+}
 
 /// Passes if the comparison found a difference, and prints the first one.
 fn assert_found(name: &str, outcome: Result<(), String>) {
@@ -70,6 +86,14 @@ fn wrong_steps_are_found() {
 #[test]
 fn wrong_tests_of_lists_and_records_are_found() {
     for (name, variant) in records::variants() {
+        assert_found(name, words_outcome(variant));
+    }
+}
+
+#[test]
+fn wrong_drops_are_found() {
+    let misread = capacity_drop::misread_variants();
+    for (name, variant) in capacity_drop::variants().into_iter().chain(misread) {
         assert_found(name, words_outcome(variant));
     }
 }

@@ -1,6 +1,6 @@
 //! Wrong programs: other orders of the first tests, and other texts.
 
-use super::wrong;
+use super::{file_but_of, length_but_of, wrong};
 use tests::calls::Program;
 use tests::model::program::program_size;
 use tests::model::{refusal, refuse_if, Kind, List, Quick, Refusal, Size};
@@ -27,8 +27,8 @@ wrong! { variants: Program;
         fn program_size(bytes: &[u8]) -> Result<Size, Refusal> {
             let links = bytes.get(8..12).map(|word| u32::from(word[0]));
             if let Some(size) = links.and_then(|n| Size::new(n, 1).ok()) {
-                let file = &bytes[..Kind::Corridor.bytes(size).min(bytes.len())];
-                Quick::read_list(Kind::Corridor, size, file)?;
+                let kind = List::Corridor.kind_of_file(bytes);
+                Quick::read_list(kind, size, &bytes[..kind.bytes(size).min(bytes.len())])?;
             }
             program_size::<Quick>(bytes)
         }
@@ -36,16 +36,39 @@ wrong! { variants: Program;
 
     /// The record is looked for behind demands of kind 2, whatever they say they are.
     FiveReadAsTwo {
-        fn kind_of_file(list: List, _: &[u8]) -> Kind {
-            list.kinds()[0]
+        fn kind_of_file(list: List, file: &[u8]) -> Kind {
+            file_but_of(Kind::Downstream, list, file)
         }
     }
 
     /// A record of kind 5 demands is refused.
     FiveRefused {
         fn kind_of_length(list: List, size: Size, words: usize) -> Result<Kind, Refusal> {
-            refuse_if(words != list.kinds()[0].words(size), 1, 0, 0)?;
-            Ok(list.kinds()[0])
+            length_but_of(Kind::Downstream, list, size, words)
+        }
+    }
+
+    /// The demands are looked for behind a corridor of kind 1, whatever it says it is.
+    TenReadAsOne {
+        fn kind_of_file(list: List, file: &[u8]) -> Kind {
+            file_but_of(Kind::CapacityDrop, list, file)
+        }
+    }
+
+    /// A record of a kind 10 corridor is refused.
+    TenRefused {
+        fn kind_of_length(list: List, size: Size, words: usize) -> Result<Kind, Refusal> {
+            length_but_of(Kind::CapacityDrop, list, size, words)
+        }
+    }
+
+    /// K alone is looked for behind a corridor of kind 1.
+    StepsBehindKindOne {
+        fn program_size(bytes: &[u8]) -> Result<Size, Refusal> {
+            let size = program_size::<TenReadAsOne>(bytes)?;
+            let corridor = List::Corridor.kind_of_file(bytes);
+            refuse_if(bytes.len() < corridor.bytes(size), 14, 0, 0)?;
+            Ok(size)
         }
     }
 }

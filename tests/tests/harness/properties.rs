@@ -1,12 +1,14 @@
 //! Shows that demand 3 and the properties bite: each fails for wrong variants that contradict it.
 
-use super::{files, outputs, program, records, steps, wrong};
+use super::{capacity_drop, files, outputs, program, records, steps, wrong};
 use std::any::Any;
 use std::panic::{catch_unwind, AssertUnwindSafe};
 use tests::calls::{FileCalls, Program, WordCalls};
+use tests::capacity_drop::*;
+use tests::completed::*;
 use tests::demand_three::assert_demand_three;
 use tests::downstream::*;
-use tests::model::{NodeStep, Quick};
+use tests::model::{List, NodeStep, Quick};
 use tests::properties::*;
 
 wrong! { rate_variants: WordCalls;
@@ -21,7 +23,7 @@ wrong! { rate_variants: WordCalls;
 /// What a property is asked of, and the names of variants for which it fails.
 type Broken<C> = (fn(&C), &'static [&'static str]);
 
-const OF_WORDS: [Broken<dyn WordCalls>; 9] = [
+const OF_WORDS: [Broken<dyn WordCalls>; 14] = [
     (
         |calls| assert_vehicles_are_conserved(calls),
         &["ThroughRoundedDown", "EverythingThrough", "AnyFlowLeaves"],
@@ -48,8 +50,31 @@ const OF_WORDS: [Broken<dyn WordCalls>; 9] = [
         &["EndRoomUntested", "CutFlowHeld", "FullEverywhere"],
     ),
     (
-        |calls| assert_kind_two_is_kind_five_completed(calls),
+        |calls| assert_completed_lists_are_the_same(calls, List::Demands),
         &["KindTwoCountsAsOneLess", "DownstreamRefused", "DownstreamBelowWhole"],
+    ),
+    (
+        |calls| assert_completed_lists_are_the_same(calls, List::Corridor),
+        &[
+            "DropRefused",
+            "TenReadAsOne",
+            "DroppedCapacityBelowCapacity",
+            "DropDensityBelowJam",
+            "NoneCountsAsZeros",
+        ],
+    ),
+    (
+        |calls| assert_drop_sets_what_a_link_sends(calls),
+        &["DropAtItsDensity", "DropPassedOver", "DropInReceivingToo", "OfNextNode", "Exchanged"],
+    ),
+    (|calls| assert_link_keeps_receiving(calls), &["DropInReceivingToo"]),
+    (
+        |calls| assert_sending_is_monotone_in_the_limit(calls),
+        &["DropOnlyAtFullSpeed", "DropOnlyWhereCapacityBinds", "DropAtItsDensity"],
+    ),
+    (
+        |calls| assert_links_come_before_the_kind(calls),
+        &["LengthBeforeLinks", "NewestLengthBeforeLinks", "LongerCorridorTaken"],
     ),
     (
         |calls| assert_demand_three(calls, 400, 4),
@@ -68,23 +93,38 @@ const OF_WORDS: [Broken<dyn WordCalls>; 9] = [
             "HeldAtLargestLimit",
             "CutFlowHeld",
             "EndRoomUntested",
+            "DropPassedOverBySimulator",
+            "DropPassedOverByChecker",
+            "DropPassedOverByConverter",
+            "DroppedFlowHeld",
         ],
     ),
 ];
 
-const OF_FILES: [Broken<dyn FileCalls>; 3] = [
+const OF_FILES: [Broken<dyn FileCalls>; 5] = [
     (|calls| assert_files_come_back(calls), &["PaddingUntested", "BytesLeftOver"]),
     (|calls| assert_check_word_sees_any_one_change(calls), &["LastWordNotSummed", "OtherWeights"]),
     (
-        |calls| assert_kind_two_is_kind_five_completed_in_files(calls),
+        |calls| assert_completed_files_are_the_same(calls, List::Demands),
         &["FiveReadAsTwo", "FiveNotWritten"],
     ),
+    (
+        |calls| assert_completed_files_are_the_same(calls, List::Corridor),
+        &["TenReadAsOne", "TenNotWritten"],
+    ),
+    (|calls| assert_links_come_before_the_kind_in_files(calls), &["TenNotWritten"]),
 ];
 
-const OF_PROGRAM: [Broken<dyn Program>; 1] = [(
-    |program| assert_kind_two_is_kind_five_completed_in_program(program),
-    &["FiveReadAsTwo", "FiveRefused"],
-)];
+const OF_PROGRAM: [Broken<dyn Program>; 2] = [
+    (
+        |program| assert_completed_inputs_are_the_same(program, List::Demands),
+        &["FiveReadAsTwo", "FiveRefused"],
+    ),
+    (
+        |program| assert_completed_inputs_are_the_same(program, List::Corridor),
+        &["TenReadAsOne", "TenRefused", "StepsBehindKindOne"],
+    ),
+];
 
 /// What a failed assertion says, in either form that it can have.
 fn text_of(failure: Box<dyn Any + Send>) -> String {
@@ -106,9 +146,15 @@ fn assert_broken<C: ?Sized>(properties: &[Broken<C>], variants: &[(&'static str,
 }
 
 pub fn assert_properties_broken() {
-    let words =
-        [steps::variants(), records::variants(), outputs::variants(), rate_variants()].concat();
-    assert_broken(&OF_WORDS, &words);
+    let words = [
+        steps::variants(),
+        records::variants(),
+        capacity_drop::variants(),
+        capacity_drop::misread_variants(),
+        outputs::variants(),
+        rate_variants(),
+    ];
+    assert_broken(&OF_WORDS, &words.concat());
     assert_broken(&OF_FILES, &files::variants());
     assert_broken(&OF_PROGRAM, &program::variants());
 }

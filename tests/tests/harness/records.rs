@@ -1,6 +1,6 @@
 //! Wrong tests of the lists and of a record: their bounds, their order, the places they name.
 
-use super::wrong;
+use super::{length_but_of, wrong};
 use tests::calls::WordCalls;
 use tests::model::check::{check_cost, check_fixed, check_record, check_steps};
 use tests::model::check::{step_fault, Proposal};
@@ -90,17 +90,14 @@ wrong! { variants: WordCalls;
     /// A list of kind 5's length is one of a wrong length.
     DownstreamRefused {
         fn kind_of_length(list: List, size: Size, words: usize) -> Result<Kind, Refusal> {
-            refuse_if(words != list.kinds()[0].words(size), 1, 0, 0)?;
-            Ok(list.kinds()[0])
+            length_but_of(Kind::Downstream, list, size, words)
         }
     }
 
     /// Lists of kind 5 only.
     DownstreamAskedFor {
         fn kind_of_length(list: List, size: Size, words: usize) -> Result<Kind, Refusal> {
-            let newest = list.kinds()[list.kinds().len() - 1];
-            refuse_if(words != newest.words(size), 1, 0, 0)?;
-            Ok(newest)
+            length_but_of(Kind::Demands, list, size, words)
         }
     }
 
@@ -196,10 +193,16 @@ wrong! { variants: WordCalls;
         }
     }
 
-    /// Refusal 9 left out at the entry, the one node whose full speed is zero.
+    /// Refusal 9 left out at the entry, the one node whose full speed is zero; a link that is then
+    /// filled beyond its jam has no room.
     EntryRoomUntested {
         fn step_fault(number: u32, here: &Proposal) -> bool {
             step_fault::<Quick>(number, here) && (number != 9 || here.at.full_speed > 0)
+        }
+
+        fn receiving(input: &Input, state: &[u32], link: usize) -> u64 {
+            let jammed = state[4 * link] >= input.node(link).jam;
+            if jammed { 0 } else { Quick::receiving(input, state, link) }
         }
     }
 

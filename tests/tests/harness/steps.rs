@@ -125,7 +125,7 @@ wrong! { variants: WordCalls;
 
     SendingIn32Bits {
         fn sending(at: &NodeStep, limit: u64) -> u64 {
-            (short_product(at.vehicles, limit) / WHOLE).min(at.capacity)
+            (short_product(at.vehicles, limit) / WHOLE).min(Quick::discharge(at))
         }
     }
 
