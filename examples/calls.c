@@ -134,7 +134,7 @@ static int with_downstream(void)
     return 0;
 }
 
-/* Link 2, which has 200 vehicles, discharges 80 above 190: by nodes, and by words and files of kind 10. */
+/* Link 2, with n = 200, discharges 80 above 190: by nodes, and by words and files of kind 10. */
 static int with_drop(void)
 {
     struct gigorchid_node changed[N + 1];

@@ -57,7 +57,8 @@
  *     plan      for each step 0..K-1, each node 0..N:           rate, limit
  *     record    for each state 0..K, each node 0..N:            n, l, f, r; then the cost, 2 words
  *
- * At node i F, V, W, J, n, f and limit are those of link i; C, L, l, r, Q and rate those of its on-ramp; b that of its off-ramp.
+ * At node i F, V, W, J, n, f, limit, dropped capacity and drop density are those of link i; C, L, l, r, Q and rate those of its on-ramp; b
+ * that of its off-ramp.
  * Fixed at zero: F, V, W, J, n, f, b, limit, dropped capacity and drop density of node 0; C, L, l, r, Q, b and rate of node N; every f and r
  * of state K.
  *
@@ -133,7 +134,7 @@ extern "C" {
 #define GIGORCHID_BLOCK_BYTES 512
 #define GIGORCHID_FILE_BYTES(words) ((GIGORCHID_CAST(size_t, words) + 124) / 125 * GIGORCHID_BLOCK_BYTES)
 
-/* Whether a file's first word is this kind, of 0 to 255. */
+/* Whether a file's first word is this number, which is below 256. */
 static inline int gigorchid_file_is(uint8_t kind, const uint8_t *file, size_t bytes)
 {
     return bytes >= 4 && file[0] == kind && file[1] == 0 && file[2] == 0 && file[3] == 0;
@@ -159,25 +160,25 @@ static inline size_t gigorchid_demands_words(uint32_t n, uint32_t k, const uint8
 
 /* The refusals: name, number, text. Where several are due, 1 to 7 are given in number order, each over its whole input at its first place by
  * row, then node; then 8 to 12 by step, node and number; 13 last. The readers, below, say the order of 14 to 18. */
-#define GIGORCHID_REFUSALS(ENTRY)                                                                                                                  \
-    ENTRY(GIGORCHID_ACCEPTED, 0, "accepted")                                                                                                       \
-    ENTRY(GIGORCHID_BAD_LENGTH, 1, "N or K is out of range or not the list's own, or a count is not the one that N, K and the kind ask for")       \
-    ENTRY(GIGORCHID_BAD_LINK, 2, "the node's F, V, W, J, dropped capacity or drop density is out of range, or not zero at node 0")                 \
-    ENTRY(GIGORCHID_BAD_RAMP, 3, "the node's identifier is zero or that of an earlier node, or its C or L is out of range, or not zero at node N") \
-    ENTRY(GIGORCHID_BAD_START, 4, "the node starts with n above J or with l above L")                                                              \
-    ENTRY(GIGORCHID_BAD_DEMAND, 5, "Q, b or, at node N, P is above 65,536, or not zero where it is fixed: b at node 0, Q and b at node N")         \
-    ENTRY(GIGORCHID_BAD_PLAN, 6, "the plan's rate is above C, or its limit above V")                                                               \
-    ENTRY(GIGORCHID_BAD_FIXED_WORD, 7, "n or l of state 0 is not the corridor's start, or a word fixed at zero is not zero")                       \
-    ENTRY(GIGORCHID_BAD_SENDING, 8, "f is more than the link can send at full speed: above n x V / 65,536 or above F (where it drops, its dropped capacity)")\
-    ENTRY(GIGORCHID_BAD_MERGE, 9, "T(f) + r is more than the next link can take in, at node N more than may leave: above S")                       \
-    ENTRY(GIGORCHID_BAD_RAMP_FLOW, 10, "r is above l or above C")                                                                                  \
-    ENTRY(GIGORCHID_BAD_NEXT_STATE, 11, "n or l of the next state is not what rule 6 gives")                                                       \
-    ENTRY(GIGORCHID_BAD_QUEUE, 12, "l of the next state is above L")                                                                               \
-    ENTRY(GIGORCHID_BAD_COST, 13, "the cost is not the sum of all n and l over states 1..K")                                                       \
-    ENTRY(GIGORCHID_BAD_FILE_LENGTH, 14, "the file has not the bytes that N, K and its kind ask for")                                               \
-    ENTRY(GIGORCHID_BAD_CHECK_WORD, 15, "the block's check word is wrong")                                                                         \
-    ENTRY(GIGORCHID_BAD_KIND, 16, "the block's kind is not that of its file, or the file is of another list")                                      \
-    ENTRY(GIGORCHID_BAD_BLOCK_NUMBER, 17, "the block's number is not its place in the file")                                                       \
+#define GIGORCHID_REFUSALS(ENTRY)                                                                                                                                                     \
+    ENTRY(GIGORCHID_ACCEPTED, 0, "accepted")                                                                                                                                          \
+    ENTRY(GIGORCHID_BAD_LENGTH, 1, "N or K is out of range or not the list's own, or a count is not the one that N, K and the kind ask for")                                          \
+    ENTRY(GIGORCHID_BAD_LINK, 2, "the node's F, V, W, J, dropped capacity or drop density is out of range, or not zero at node 0")                                                    \
+    ENTRY(GIGORCHID_BAD_RAMP, 3, "the node's identifier is zero or that of an earlier node, or its C or L is out of range, or not zero at node N")                                    \
+    ENTRY(GIGORCHID_BAD_START, 4, "the node starts with n above J or with l above L")                                                                                                 \
+    ENTRY(GIGORCHID_BAD_DEMAND, 5, "Q, b or, at node N, P is above 65,536, or not zero where it is fixed: b at node 0, Q and b at node N")                                            \
+    ENTRY(GIGORCHID_BAD_PLAN, 6, "the plan's rate is above C, or its limit above V")                                                                                                  \
+    ENTRY(GIGORCHID_BAD_FIXED_WORD, 7, "n or l of state 0 is not the corridor's start, or a word fixed at zero is not zero")                                                          \
+    ENTRY(GIGORCHID_BAD_SENDING, 8, "f is more than the link can send at full speed: above n x V / 65,536, above F, or above its dropped capacity where n is above its drop density") \
+    ENTRY(GIGORCHID_BAD_MERGE, 9, "T(f) + r is more than the next link can take in, at node N more than may leave: above S")                                                          \
+    ENTRY(GIGORCHID_BAD_RAMP_FLOW, 10, "r is above l or above C")                                                                                                                     \
+    ENTRY(GIGORCHID_BAD_NEXT_STATE, 11, "n or l of the next state is not what rule 6 gives")                                                                                          \
+    ENTRY(GIGORCHID_BAD_QUEUE, 12, "l of the next state is above L")                                                                                                                  \
+    ENTRY(GIGORCHID_BAD_COST, 13, "the cost is not the sum of all n and l over states 1..K")                                                                                          \
+    ENTRY(GIGORCHID_BAD_FILE_LENGTH, 14, "the file has not the bytes that N, K and its kind ask for")                                                                                 \
+    ENTRY(GIGORCHID_BAD_CHECK_WORD, 15, "the block's check word is wrong")                                                                                                            \
+    ENTRY(GIGORCHID_BAD_KIND, 16, "the block's kind is not that of its file, or the file is of another list")                                                                         \
+    ENTRY(GIGORCHID_BAD_BLOCK_NUMBER, 17, "the block's number is not its place in the file")                                                                                          \
     ENTRY(GIGORCHID_BAD_PADDING, 18, "the block's padding is not zero")
 
 #define GIGORCHID_ENUMERATOR(name, number, text) name = number,
@@ -213,8 +214,8 @@ uint32_t gigorchid_check_words(const uint32_t *corridor, size_t corridor_words,
                                const uint32_t *record, size_t record_words);
 
 /* The same, and fills `plan` with a plan that has the record: for each node at each step limit V and the smallest rate that gives f and r with
- * it, or, if no rate does, rate r and the smallest limit that sends f. A link that its drop cuts is at full speed as well. At node N the rate
- * is 0, and the limit V exactly where f = min(D, P) at full speed, also where it is P that cuts what link N sends; it is lower only where f is
+ * it, or, if no rate does, rate r and the smallest limit that sends f. Where the drop is all that cuts what a link sends, its limit is V. At node N the
+ * rate is 0, and the limit V exactly where f = min(D, P) at full speed, also where it is P that cuts what link N sends; it is lower only where f is
  * less still. */
 uint32_t gigorchid_convert_words(const uint32_t *corridor, size_t corridor_words,
                                  const uint32_t *demands, size_t demands_words,
@@ -232,8 +233,9 @@ uint32_t gigorchid_normal_words(const uint32_t *corridor, size_t corridor_words,
 
 /* ---- the corridor as a list of nodes: N is their count less one; a count other than 2 to 65 is refused by 1 ---- */
 
-/* The words of a node in a corridor's list of kind 10, in their order: a link that does not drop has its F and its J in the last two, and not
- * zeros, which let nothing out of it. */
+/* The words of a node in a corridor's list of kind 10, in their order. The last two are new in 0.3.0: a link that does not drop has its F and
+ * its J there, and node 0, which has no link, zeros. Code for 0.2.0 is to be compiled anew and to fill both: nine values leave zeros, which are
+ * in range, and let nothing out of a link. */
 struct gigorchid_node {
     uint32_t identifier;
     uint32_t capacity;         /* F */
@@ -244,8 +246,8 @@ struct gigorchid_node {
     uint32_t queue_limit;      /* L */
     uint32_t start_vehicles;   /* n */
     uint32_t start_queue;      /* l */
-    uint32_t dropped_capacity;
-    uint32_t drop_density;
+    uint32_t dropped_capacity; /* 0..F */
+    uint32_t drop_density;     /* 0..J */
 };
 
 /* As the calls on words, with the same answers. */

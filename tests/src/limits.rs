@@ -15,7 +15,7 @@ const MOST: u32 = WHOLE as u32;
 /// passes its limit; with half the vehicles and no queues products of 2^32 occur and every queue
 /// stays within its limit. With demands of kind 5 an eighth of the most may leave link N in every
 /// other step, and the most of all in those between; with a corridor of kind 10 each link with more
-/// than half the vehicles discharges half of the most.
+/// than half the vehicles discharges a quarter of the most.
 pub fn greatest(size: Size, kinds: Kinds, jammed: bool) -> WordCase {
     let nodes: Vec<Node> = (0..size.nodes()).map(|i| greatest_node(size, i, jammed)).collect();
     let mut demands = vec![size.steps as u32];
@@ -50,7 +50,7 @@ fn greatest_node(size: Size, i: usize, jammed: bool) -> Node {
         queue_limit: ramp * MOST_QUEUE_LIMIT,
         start_vehicles: link * if jammed { MOST } else { MOST / 2 },
         start_queue: if jammed { ramp * MOST_QUEUE_LIMIT } else { 0 },
-        dropped_capacity: link * MOST / 2,
+        dropped_capacity: link * MOST / 4,
         drop_density: link * MOST / 2,
     }
 }

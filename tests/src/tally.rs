@@ -90,7 +90,8 @@ impl Tally {
             self.expect(normal, &[0, 1, 2, 3, 4, 5, 6, 12], at_least);
         }
         KINDS_TOGETHER.as_flattened().iter().for_each(|name| self.expect(name, &[0], at_least));
-        self.expect_refusals_by_kind(at_least / 4);
+        self.expect_downstream_refusals(at_least / 4);
+        self.expect_drop_refusals(at_least / 8);
     }
 
     /// The answers that even a short series of large inputs brings about, those of all calls and

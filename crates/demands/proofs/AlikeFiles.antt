@@ -1,7 +1,7 @@
 -- Files that are read alike, and whose words do the same, do the same in every call on files; and the files of a list and of the same in the
 -- later kind of its place are read alike.
 use Prim.Native.Nat.{ℕ, _*_, _≤_}
-use mathlib.Core.Bool.{Bool, true, false, _&&_, cond}
+use mathlib.Core.Bool.{Bool, true, _&&_, cond}
 use mathlib.Core.List.{List}
 use mathlib.Core.Path.{_≡_, refl, sym, ap, ap₂, subst, _∙_}
 use native.Mathlib.Omega.{arith}
@@ -35,6 +35,10 @@ use Rattle.demands.specs.Completed.{SameOnFiles}
 left-same : (a : Answer) (x y lent : List ℕ) → (a ≡ Accepted → x ≡ y) → left a x lent ≡ left a y lent
 left-same Accepted x y lent h = h refl
 left-same (Refused number row node) x y lent h = refl
+
+-- what is the same of two lists is the same of what two files hold, where these are the lists
+pub of-files {ℓ} : {X : Type ℓ} (F : List ℕ → X) (read list other read′ : List ℕ) → read ≡ list → F list ≡ F other → other ≡ read′ → F read ≡ F read′
+of-files F read list other read′ p same q = ap F p ∙ same ∙ ap F q
 
 -- ---- files that are read alike
 

@@ -1,14 +1,13 @@
 -- A corridor of kind 1 and the same completed are proved to do the same, as lists: each node reads as the same node.
 use Prim.Native.Nat.{ℕ, suc, _+_, _*_, _≤_, _<_}
-use mathlib.Core.Bool.{Bool, true, false, cond, _&&_, _||_}
+use mathlib.Core.Bool.{Bool, true, false, _&&_, _||_}
 use mathlib.Core.List.{List}
-use mathlib.Core.Path.{_≡_, refl, sym, ap, ap₂, _∙_}
+use mathlib.Core.Path.{_≡_, refl, sym, ap, _∙_}
 use native.Mathlib.Omega.{arith}
-use borrow.Author.Tests.{eq-eqb, ne-eqb, lt-ltb, le-ltb}
-use lib.Dec.{eqb, ltb}
+use borrow.Author.Tests.{eq-eqb, lt-ltb}
+use lib.Dec.{eqb}
 use lib.ListN.{length, getD}
 use Rattle.tables.proofs.Grid.{rowWords-length, rowWords-at}
-use Rattle.road.specs.Corridor.{Node}
 use Rattle.road.proofs.Roads.{SameRoads}
 use Rattle.faults.specs.Lists.{within}
 use Rattle.lists.specs.Words.{linksOf, stepsOf, corridorLength, byKind, corridorWord, nodeAt, roadOf}

@@ -25,10 +25,10 @@ use Rattle.files.proofs.Corridors.{corridor-count}
 use Rattle.files.proofs.Answers.{files-fit}
 use Rattle.files.proofs.Contents.{own-links}
 use Rattle.demands.specs.Completed.{completedWord, completedCorridor, SameOnFiles, Completes}
-use Rattle.demands.proofs.AlikeFiles.{alike-files, file-holds, file-answers}
+use Rattle.demands.proofs.AlikeFiles.{of-files, alike-files, file-holds, file-answers}
 use Rattle.demands.proofs.Completed.{demands-alike}
 use Rattle.demands.proofs.CompletedFiles.{demands-files}
-use Rattle.demands.proofs.CompletedCorridor.{completed-length, completed-links, corridor-alike, corridor-checks, corridor-plans}
+use Rattle.demands.proofs.CompletedCorridor.{completed-length, corridor-alike, corridor-checks, corridor-plans}
 
 word-fits : (corridor : List ℕ) → Words corridor → (i q : ℕ) → completedWord corridor i q < 4294967296
 unfolding completedWord
@@ -90,16 +90,14 @@ module _ (n k : ℕ) (corridor demands recorded : List ℕ) (fits : Words corrid
       checks : checkAnswer (corridorIn n short) (demandsIn n k demands) (recordIn recordWidth n k recorded)
           ≡ checkAnswer (corridorIn n long) (demandsIn n k demands) (recordIn recordWidth n k recorded)
       checks =
-          ap (λ (c : List ℕ). checkAnswer c (demandsIn n k demands) (recordIn recordWidth n k recorded)) read-short
-          ∙ corridor-checks corridor fit (demandsIn n k demands) (recordIn recordWidth n k recorded)
-          ∙ ap (λ (c : List ℕ). checkAnswer c (demandsIn n k demands) (recordIn recordWidth n k recorded)) full-is
+          of-files (λ c. checkAnswer c (demandsIn n k demands) (recordIn recordWidth n k recorded)) _ _ _ _ read-short
+          (corridor-checks corridor fit (demandsIn n k demands) (recordIn recordWidth n k recorded)) full-is
 
       plans : converted (corridorIn n short) (demandsIn n k demands) (recordIn recordWidth n k recorded)
           ≡ converted (corridorIn n long) (demandsIn n k demands) (recordIn recordWidth n k recorded)
       plans =
-          ap (λ (c : List ℕ). converted c (demandsIn n k demands) (recordIn recordWidth n k recorded)) read-short
-          ∙ corridor-plans corridor fit (demandsIn n k demands) (recordIn recordWidth n k recorded)
-          ∙ ap (λ (c : List ℕ). converted c (demandsIn n k demands) (recordIn recordWidth n k recorded)) full-is
+          of-files (λ c. converted c (demandsIn n k demands) (recordIn recordWidth n k recorded)) _ _ _ _ read-short
+          (corridor-plans corridor fit (demandsIn n k demands) (recordIn recordWidth n k recorded)) full-is
 
   corridor-files : SameOnFiles n k (fileOf 1 corridor) demands (fileOf 10 (completedCorridor n corridor)) demands recorded
   corridor-files = alike-files n k short demands long demands recorded files-same checks plans

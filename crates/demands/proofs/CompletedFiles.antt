@@ -23,7 +23,7 @@ use Rattle.files.specs.Files.{corridorIn, demandsIn, recordIn, filesAnswer}
 use Rattle.files.proofs.Answers.{files-fit}
 use Rattle.files.proofs.Contents.{own-links, own-steps}
 use Rattle.demands.specs.Completed.{completed, SameOnFiles}
-use Rattle.demands.proofs.AlikeFiles.{alike-files, file-holds, file-answers}
+use Rattle.demands.proofs.AlikeFiles.{of-files, alike-files, file-holds, file-answers}
 use Rattle.demands.proofs.Completed.{demands-checks, demands-plans}
 
 words-completed : (k : ℕ) (words : List ℕ) → Words words → Words (completed k words)
@@ -94,16 +94,14 @@ module _ (n k : ℕ) (corridor demands recorded : List ℕ) (fits : Words demand
       checks : checkAnswer (corridorIn n corridor) (demandsIn n k short) (recordIn recordWidth n k recorded)
           ≡ checkAnswer (corridorIn n corridor) (demandsIn n k long) (recordIn recordWidth n k recorded)
       checks =
-          ap (λ (d : List ℕ). checkAnswer (corridorIn n corridor) d (recordIn recordWidth n k recorded)) read-short
-          ∙ demands-checks (corridorIn n corridor) demands fit (recordIn recordWidth n k recorded)
-          ∙ ap (λ (d : List ℕ). checkAnswer (corridorIn n corridor) d (recordIn recordWidth n k recorded)) full-is
+          of-files (λ d. checkAnswer (corridorIn n corridor) d (recordIn recordWidth n k recorded)) _ _ _ _ read-short
+          (demands-checks (corridorIn n corridor) demands fit (recordIn recordWidth n k recorded)) full-is
 
       plans : converted (corridorIn n corridor) (demandsIn n k short) (recordIn recordWidth n k recorded)
           ≡ converted (corridorIn n corridor) (demandsIn n k long) (recordIn recordWidth n k recorded)
       plans =
-          ap (λ (d : List ℕ). converted (corridorIn n corridor) d (recordIn recordWidth n k recorded)) read-short
-          ∙ demands-plans (corridorIn n corridor) demands fit (recordIn recordWidth n k recorded)
-          ∙ ap (λ (d : List ℕ). converted (corridorIn n corridor) d (recordIn recordWidth n k recorded)) full-is
+          of-files (λ d. converted (corridorIn n corridor) d (recordIn recordWidth n k recorded)) _ _ _ _ read-short
+          (demands-plans (corridorIn n corridor) demands fit (recordIn recordWidth n k recorded)) full-is
 
   pub demands-files : SameOnFiles n k corridor (fileOf 2 demands) corridor (fileOf 5 (completed k demands)) recorded
   demands-files = alike-files n k corridor short corridor long recorded files-same checks plans

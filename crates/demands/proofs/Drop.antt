@@ -1,7 +1,7 @@
 -- The laws of the drop.
 use Prim.Native.Nat.{ℕ, _*_, _/_, min}
 use mathlib.Core.Bool.{Bool, true, false, cond}
-use mathlib.Core.Path.{_≡_, refl, ap, _∙_}
+use mathlib.Core.Path.{_≡_, refl, ap}
 use lib.Dec.{leb}
 use Rattle.road.specs.Corridor.{Link}
 use Rattle.road.specs.Step.{discharge, sending, receiving}

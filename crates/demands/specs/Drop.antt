@@ -27,11 +27,11 @@ withDrop capacity density link =
 pub record DropLaws : Type 0 where
   -- sending is monotone in the limit
   pub rises : (link : Link) (vehicles limit higher : ℕ) → limit ≤ higher → sending link vehicles limit ≤ sending link vehicles higher
-  -- a link within its drop density sends as before: D = min(n × v / 65,536, F)
+  -- a link within its drop density sends as without a drop: D = min(n × v / 65,536, F)
   pub within : (link : Link) (vehicles limit : ℕ) → vehicles ≤ link .dropDensity → sending link vehicles limit ≡ min (vehicles * limit / 65536) (link .capacity)
   -- above it, no more than its dropped capacity: D = min(n × v / 65,536, dropped capacity)
   pub above : (link : Link) (vehicles limit : ℕ) → link .dropDensity < vehicles → sending link vehicles limit ≡ min (vehicles * limit / 65536) (link .droppedCapacity)
-  -- with F for its dropped capacity it sends as before, whatever the density
+  -- with F for its dropped capacity it sends as without a drop, whatever the density
   pub without : (link : Link) (density vehicles limit : ℕ) → sending (withDrop (link .capacity) density link) vehicles limit ≡ min (vehicles * limit / 65536) (link .capacity)
   -- what it receives, the drop does not change
   pub receives : (link : Link) (capacity density vehicles : ℕ) → receiving (withDrop capacity density link) vehicles ≡ receiving link vehicles
@@ -56,12 +56,12 @@ corridorFirst capacity density capacity′ density′ =
     ∷ 30 ∷ 100 ∷ 32768 ∷ 32768 ∷ 400 ∷ 0 ∷ 0 ∷ 200 ∷ 0 ∷ 80 ∷ 190
     ∷ []
 
--- ---- the same demand with and without a drop: one link, 85 units a step arriving before it, 240 vehicles on it and a queue of 85 at the start
+-- ---- the same demand with and without a drop: one link, Q of node 0 is 85 in each step, n is 240 and l 85 at the start
 
 abbrev pub onePlain : List ℕ
 onePlain = 1 ∷ 10 ∷ 0 ∷ 0 ∷ 0 ∷ 0 ∷ 100 ∷ 1000 ∷ 0 ∷ 85 ∷ 20 ∷ 100 ∷ 32768 ∷ 32768 ∷ 400 ∷ 0 ∷ 0 ∷ 240 ∷ 0 ∷ []
 
--- 80 is discharged above 200 vehicles
+-- 80 is discharged above n = 200
 abbrev pub oneDropped : List ℕ
 oneDropped = 1 ∷ 10 ∷ 0 ∷ 0 ∷ 0 ∷ 0 ∷ 100 ∷ 1000 ∷ 0 ∷ 85 ∷ 0 ∷ 0 ∷ 20 ∷ 100 ∷ 32768 ∷ 32768 ∷ 400 ∷ 0 ∷ 0 ∷ 240 ∷ 0 ∷ 80 ∷ 200 ∷ []
 
@@ -85,7 +85,7 @@ oneRecovers =
     ∷ 1674 ∷ 0
     ∷ []
 
--- link 1 stays at 240 vehicles, and the queue grows by 5 in each step
+-- n of link 1 stays 240, and the queue grows by 5 in each step
 abbrev pub oneCongested : List ℕ
 oneCongested =
     0 ∷ 85 ∷ 0 ∷ 80 ∷ 240 ∷ 0 ∷ 80 ∷ 0
@@ -99,7 +99,7 @@ oneCongested =
     ∷ []
 
 pub record DropCases : Type 0 where
-  -- rates 100, 60, full limits, 80 discharged above 190 vehicles: f2 = 80; next n2 = 200 + 100 − 80; cost 390
+  -- rates 100, 60, full limits, 80 discharged above n = 190: f2 = 80; next n2 = 200 + 100 − 80; cost 390
   pub simulates : (simulateAnswer (corridorWith 80 190) demands plan 26 ≡ Accepted) × (simulated (corridorWith 80 190) demands plan ≡ recordOut 80 220 390)
   -- that record: link 2 at full speed; without the drop it is held, limit 26,215
   pub full : (convertAnswer (corridorWith 80 190) demands (recordOut 80 220 390) 6 ≡ Accepted) × (converted (corridorWith 80 190) demands (recordOut 80 220 390) ≡ planOut 32768)

@@ -6,7 +6,7 @@ use lib.ListN.{length}
 use Rattle.tables.specs.declared.Answer.{Answer}
 use Rattle.tables.specs.declared.Answer.the-variants.{Accepted}
 use Rattle.tables.specs.Answer.{orElse}
-use Rattle.lists.specs.Words.{downstreamWord, roadOf, recordWidth, planLength, recordLength}
+use Rattle.lists.specs.Words.{downstreamWord, roadOf, recordWidth, recordLength}
 use Rattle.lists.specs.Refusals.{ranges}
 use Rattle.convert.specs.Refusals.{judged}
 use Rattle.convert.specs.Rows.{planRow, Ready}

@@ -17,7 +17,7 @@ use Rattle.road.specs.Corridor.{Link, Ramp, NodeState, Node, Road, Plan, Flows,
 use Rattle.road.specs.Step.{Junction, sending, outflow}
 use Rattle.road.specs.Run.{junction, next, cost}
 use Rattle.lists.specs.Words.{linksOf, stepsOf, roadOf, planOf, recordWidth, traceOf, traceLength, planLength, recordLength}
-use Rattle.faults.specs.Lists.{within, implies, noLink, linkInRange, linkFault, rampFault, startFault, demandFault, planFault}
+use Rattle.faults.specs.Lists.{implies, noLink, linkInRange, linkFault, rampFault, startFault, demandFault, planFault}
 use Rattle.lists.specs.Refusals.{fresh, linkRefusal, rampRefusal, startRefusal, demandRefusal, ranges, bounds, planBounds, sizes}
 use Rattle.lists.proofs.Limits.{sizes-iff}
 use Rattle.simulate.specs.Simulate.{simulateSizes, simulateAnswer, simulated}

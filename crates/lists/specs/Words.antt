@@ -1,4 +1,4 @@
--- The word lists of document 01: where each word stands, how long each list is, and what corridor, demands, plan and record the words say.
+-- The word lists of document 01 and of requests 01 and 07: where each word stands, how long each list is, and what corridor, demands, plan and record the words say.
 use Prim.Native.Nat.{ℕ, zero, suc, _+_, _*_, _/_, _%_, _≤_}
 use mathlib.Core.List.{List, [], _∷_, _++_}
 use mathlib.Core.Bool.{cond}
@@ -25,7 +25,7 @@ byKind links count dropped plain = cond (eqb count (corridorLength 11 links)) dr
 abbrev pub nodeWidth : ℕ → ℕ → ℕ
 nodeWidth links count = byKind links count 11 9
 
--- where a node's dropped capacity and its drop density stand among its words: kind 1 has neither, and its F and its J count as them
+-- where a node's dropped capacity and its drop density stand among its words: kind 1 has neither, and its F and its J, words 1 and 4, count as them
 abbrev pub droppedPlace : ℕ → ℕ → ℕ
 droppedPlace links count = byKind links count 9 1
 

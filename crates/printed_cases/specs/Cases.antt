@@ -20,7 +20,7 @@ inputWith = inputOf (fileOf 1 corridor) (fileOf 2 demands)
 abbrev pub inputBehind : List ℕ → List ℕ
 inputBehind = inputOf (fileOf 1 corridor) (fileOf 5 (demandsWith 70))
 
--- with a corridor of kind 10: link 2, which has 200 vehicles, discharges 80 above 190
+-- with a corridor of kind 10: link 2, with n = 200, discharges 80 above 190
 abbrev pub inputDropped : List ℕ → List ℕ
 inputDropped = inputOf (fileOf 10 (corridorWith 80 190)) (fileOf 2 demands)
 

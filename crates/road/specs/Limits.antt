@@ -1,4 +1,4 @@
--- Within limits: document 01's ranges as facts, those that refusals 1 to 5 leave of a corridor and its demands, and 6 of a plan.
+-- Within limits: the ranges of document 01 and of requests 01 and 07 as facts, those that refusals 1 to 5 leave of a corridor and its demands, and 6 of a plan.
 use Prim.Native.Nat.{ℕ, _≤_, _<_}
 use mathlib.Core.Path.{_≡_}
 use Rattle.road.specs.Corridor.{Link, Ramp, Node, Road, Plan}

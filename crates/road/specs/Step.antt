@@ -1,4 +1,4 @@
--- One step of one node: rules 1 to 5 of document 01. Quotients round down.
+-- One step of one node: rules 1 to 5 of document 01, rule 1 with the drop of request 07. Quotients round down.
 use Prim.Native.Nat.{ℕ, _+_, _-_, _*_, _/_, min}
 use mathlib.Core.Bool.{cond}
 use lib.Dec.{leb}

@@ -7,7 +7,7 @@ use Rattle.road.specs.Step.{Junction, sending, flowsWith, outflow}
 use Rattle.settings.specs.declared.Found.{Found}
 use Rattle.settings.specs.declared.Found.the-variants.{Rate, Nothing}
 
--- what a proposal keeps: f ≤ min(n × V / 65,536, F); T(f) + r ≤ S; r ≤ min(l, C)
+-- what a proposal keeps: f ≤ min(n × V / 65,536, what the link may discharge); T(f) + r ≤ S; r ≤ min(l, C)
 pub record Permitted (junction : Junction) (flows : Flows) : Type 0 where
   pub sent : flows .main ≤ sending (junction .link) (junction .state .vehicles) (junction .link .fullSpeed)
   pub fits : outflow flows (junction .split) ≤ junction .supply

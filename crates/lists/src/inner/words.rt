@@ -43,7 +43,7 @@ pub fn steps_of(demands: &[u32]) -> usize
 }
 
 // Of two numbers the one for kind 10, where a corridor of N has that kind's length, and else the one for kind 1.
-pub fn by_kind(links: usize, count: usize, dropped: usize, plain: usize) -> usize
+fn by_kind(links: usize, count: usize, dropped: usize, plain: usize) -> usize
     requires { ⌜ links ≤ 64 ⌝ }
     ensures { λ r. ⌜ r ≡ byKind links count dropped plain ⌝ }
 {

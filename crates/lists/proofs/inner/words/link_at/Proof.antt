@@ -1,5 +1,4 @@
 -- By the words that are read.
-use native.Mathlib.Omega.{arith}
 use denote.Ref.{now}
 use borrow.Author.Needs.{needs}
 use Rattle.lists.specs.Words.{nodeAt}
