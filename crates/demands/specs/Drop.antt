@@ -36,25 +36,20 @@ pub record DropLaws : Type 0 where
   -- what it receives, the drop does not change
   pub receives : (link : Link) (capacity density vehicles : ℕ) → receiving (withDrop capacity density link) vehicles ≡ receiving link vehicles
 
--- ---- B in kind 10, without a drop on link 1
+-- ---- B in kind 10
 
--- link 2 with this dropped capacity and this drop density
+-- with these dropped capacities and drop densities at nodes 0, 1 and 2
+abbrev pub corridorDrops : ℕ → ℕ → ℕ → ℕ → ℕ → ℕ → List ℕ
+corridorDrops capacity0 density0 capacity1 density1 capacity2 density2 =
+    2
+    ∷ 10 ∷ 0 ∷ 0 ∷ 0 ∷ 0 ∷ 100 ∷ 1000 ∷ 0 ∷ 0 ∷ capacity0 ∷ density0
+    ∷ 20 ∷ 100 ∷ 32768 ∷ 32768 ∷ 400 ∷ 60 ∷ 200 ∷ 200 ∷ 50 ∷ capacity1 ∷ density1
+    ∷ 30 ∷ 100 ∷ 32768 ∷ 32768 ∷ 400 ∷ 0 ∷ 0 ∷ 200 ∷ 0 ∷ capacity2 ∷ density2
+    ∷ []
+
+-- link 1 does not drop, and link 2 drops so
 abbrev pub corridorWith : ℕ → ℕ → List ℕ
-corridorWith capacity density =
-    2
-    ∷ 10 ∷ 0 ∷ 0 ∷ 0 ∷ 0 ∷ 100 ∷ 1000 ∷ 0 ∷ 0 ∷ 0 ∷ 0
-    ∷ 20 ∷ 100 ∷ 32768 ∷ 32768 ∷ 400 ∷ 60 ∷ 200 ∷ 200 ∷ 50 ∷ 100 ∷ 400
-    ∷ 30 ∷ 100 ∷ 32768 ∷ 32768 ∷ 400 ∷ 0 ∷ 0 ∷ 200 ∷ 0 ∷ capacity ∷ density
-    ∷ []
-
--- nodes 0 and 1 with these dropped capacities and drop densities
-abbrev pub corridorFirst : ℕ → ℕ → ℕ → ℕ → List ℕ
-corridorFirst capacity density capacity′ density′ =
-    2
-    ∷ 10 ∷ 0 ∷ 0 ∷ 0 ∷ 0 ∷ 100 ∷ 1000 ∷ 0 ∷ 0 ∷ capacity ∷ density
-    ∷ 20 ∷ 100 ∷ 32768 ∷ 32768 ∷ 400 ∷ 60 ∷ 200 ∷ 200 ∷ 50 ∷ capacity′ ∷ density′
-    ∷ 30 ∷ 100 ∷ 32768 ∷ 32768 ∷ 400 ∷ 0 ∷ 0 ∷ 200 ∷ 0 ∷ 80 ∷ 190
-    ∷ []
+corridorWith = corridorDrops 0 0 100 400
 
 -- ---- the same demand with and without a drop: one link, Q of node 0 is 85 in each step, n is 240 and l 85 at the start
 
@@ -121,9 +116,9 @@ pub record DropCases : Type 0 where
   pub capacity-high : limits (corridorWith 101 190) demands ≡ Refused 2 0 2
   pub density-high : limits (corridorWith 80 401) demands ≡ Refused 2 0 2
   pub both-highest : limits (corridorWith 100 400) demands ≡ Accepted
-  pub entry-capacity : limits (corridorFirst 1 0 100 400) demands ≡ Refused 2 0 0
-  pub entry-density : limits (corridorFirst 0 1 100 400) demands ≡ Refused 2 0 0
-  pub first-node : limits (corridorFirst 0 0 101 400) demands ≡ Refused 2 0 1
+  pub entry-capacity : limits (corridorDrops 1 0 100 400 80 190) demands ≡ Refused 2 0 0
+  pub entry-density : limits (corridorDrops 0 1 100 400 80 190) demands ≡ Refused 2 0 0
+  pub first-node : limits (corridorDrops 0 0 101 400 80 190) demands ≡ Refused 2 0 1
   -- the same demand recovers without the drop, and stays congested with it
   pub recovers : (simulateAnswer onePlain oneDemands onePlan 58 ≡ Accepted) × (simulated onePlain oneDemands onePlan ≡ oneRecovers)
   pub congested : (simulateAnswer oneDropped oneDemands onePlan 58 ≡ Accepted) × (simulated oneDropped oneDemands onePlan ≡ oneCongested)

@@ -45,7 +45,7 @@ pub fn gives(junction: Junction, wanted: Flows, rate: Units) -> bool
     }
 }
 
-// The middle of the rates left, rounded down; one follows it, since some are left above it.
+// The middle of the rates left, rounded down: below the greatest of them, so that a rate follows it.
 fn middle(low: u32, high: u32) -> u32
     requires { ⌜ low < high ⌝ }
     ensures { λ r. ⌜ (r ≡ low + (high - low) / 2) × (r < 4294967295) ⌝ }
