@@ -26,7 +26,7 @@ impl fmt::Display for Verdict {
 }
 
 /// Words of errors that say that a fact was looked for and not found.
-const FACT: [&str; 11] = [
+const FACT: [&str; 12] = [
     "`search`: no proof of",
     // the same in a function that has no proof file
     "`search` does not close",
@@ -42,6 +42,8 @@ const FACT: [&str; 11] = [
     "does not hold (this comparison",
     // the same, computed at once
     "computed as far as they go, the two values are",
+    // the same, where the sides are records
+    "as printed, the two values first differ",
 ];
 
 /// Words of errors that say that code and proof no longer fit each other, whatever is true of the code.
@@ -183,6 +185,7 @@ mod tests {
             "proofs/inner/unpacked/downstream/Proof.antt:13:5: error: `word-of-requires`: `omega` found no proof, and no values at which the goal fails",
             "proofs/Rates.antt:40:54: error: `reaches-facts`: `reaches junction` ≟ `leb a b && leb c d`\n  does not hold (this comparison, made at this position, had to wait",
             "proofs/sized/Proof.antt:7:63: error: `sized-spec`: computed as far as they go, the two values are `c .refusal .result` (found) and `Answer.refusal (unless fits 1) 0 0`",
+            "proofs/inner/words/link_at/Proof.antt:17:10: error: `returns`: as printed, the two values first differ where one has `record` (found), at the start",
             "fn lists::inner::words::node_word: no proof: expected `node-word-spec` in ./proofs/inner/words/node_word/Proof.antt; `search` does not close `returns`",
         ] {
             assert_eq!(judged(1, &format!("fn a: proved\n{error}\nlogic=not-proved\n")).0, Verdict::Fact, "{error}");
