@@ -96,6 +96,18 @@ pub through-exit : (flow split : ℕ) → split ≤ 65536 → through flow split
 unfolding through exit
 through-exit flow split h = omega (arith, share-le flow split 65536 h)
 
+pub exit-le : (flow split : ℕ) → split ≤ 65536 → exit flow split ≤ flow
+exit-le flow split h = omega (arith, through-exit flow split h)
+
+-- of no flow, and at a split of zero, nothing leaves
+pub exit-of-none : (flow split : ℕ) → flow ≡ 0 → exit flow split ≡ 0
+unfolding exit
+exit-of-none flow split e = rw e (omega (arith, zero-mul split))
+
+pub exit-unsplit : (flow split : ℕ) → split ≡ 0 → exit flow split ≡ 0
+unfolding exit
+exit-unsplit flow split e = rw e (omega arith)
+
 pub through-le : (flow split : ℕ) → through flow split ≤ flow
 unfolding through
 through-le flow split = omega arith

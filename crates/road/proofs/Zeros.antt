@@ -1,13 +1,13 @@
--- The fixed zeros of a run within limits: n and f of node 0, l and r of node N.
-use Prim.Native.Nat.{ℕ, zero, suc, _≤_}
-use mathlib.Core.Path.{_≡_, refl}
+-- The fixed zeros of a run within limits: n and f of node 0, l and r of node N, and the exits of both and of state K.
+use Prim.Native.Nat.{ℕ, zero, suc, _≤_, _<_}
+use mathlib.Core.Path.{_≡_, refl, ap}
 use native.Mathlib.Omega.{arith}
 use Rattle.road.specs.Corridor.{NodeState, Road, Plan, Flows}
-use Rattle.road.specs.Step.{moved}
+use Rattle.road.specs.Step.{exit, moved}
 use Rattle.road.specs.Run.{junction, inflow, next, planFlows, stateAt, noFlow, run}
 use Rattle.road.specs.Limits.{Limits}
-use Rattle.road.proofs.Rules.{flows-sent, flows-offered}
-use Rattle.road.proofs.Runs.{run-each, entry-sends}
+use Rattle.road.proofs.Rules.{exit-le, exit-of-none, exit-unsplit, flows-sent, flows-offered}
+use Rattle.road.proofs.Runs.{run-last, run-each, entry-sends}
 
 module _ (road : Road) (limits : Limits road) (plan : Plan) where
   -- ---- f of node 0 and r of node N, from any state
@@ -42,3 +42,25 @@ module _ (road : Road) (limits : Limits road) (plan : Plan) where
   pub run-exit-ramp : (k : ℕ) → k ≤ road .steps → run road plan .flows k (road .links) .ramp ≡ 0
   unfolding noFlow
   run-exit-ramp k h = run-each (λ (x : Flows). x .ramp ≡ 0) road plan k (road .links) h refl (λ g. exit-ramp k (stateAt road plan k))
+
+  -- ---- what leaves by an off-ramp
+
+  pub run-last-exit : (i : ℕ) → exit (run road plan .flows (road .steps) i .main) (road .split (road .steps) i) ≡ 0
+  unfolding noFlow
+  run-last-exit i = exit-of-none _ _ (ap (λ (x : Flows). x .main) (run-last road plan i))
+
+  pub run-entry-exit : (k : ℕ) → k ≤ road .steps → exit (run road plan .flows k 0 .main) (road .split k 0) ≡ 0
+  run-entry-exit k h = exit-of-none _ _ (run-entry-main k h)
+
+  pub run-end-exit : (k : ℕ) → k ≤ road .steps → exit (run road plan .flows k (road .links) .main) (road .split k (road .links)) ≡ 0
+  unfolding noFlow
+  run-end-exit k h =
+      run-each (λ (x : Flows). exit (x .main) (road .split k (road .links)) ≡ 0) road plan k (road .links) h (exit-of-none 0 _ refl)
+      (λ g. exit-unsplit _ _ (limits .demand k (road .links) g (omega arith) .exitSplit refl))
+
+  -- no more leaves by an off-ramp than comes to it
+  pub run-exit-le : (k i : ℕ) → k ≤ road .steps → i ≤ road .links → exit (run road plan .flows k i .main) (road .split k i) ≤ run road plan .flows k i .main
+  unfolding noFlow
+  run-exit-le k i h hi =
+      run-each (λ (x : Flows). exit (x .main) (road .split k i) ≤ x .main) road plan k i h (omega (arith, exit-of-none 0 (road .split k i) refl))
+      (λ g. exit-le _ _ (limits .demand k i g hi .split))

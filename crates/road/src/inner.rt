@@ -1,7 +1,7 @@
 // The leaves of a step: rules 1 to 6 of one node on typed values, each proved to be its definition. Products are 64 bits wide.
 ghost use mathlib.Core.Path.{_≡_};
 ghost use Prim.Native.Nat.{_+_, _*_, _/_, _≤_, _<_};
-ghost use Rattle.road.specs.Step.{discharge, sending, through, offer, receiving, merge, flowsWith, outflow, moved};
+ghost use Rattle.road.specs.Step.{discharge, sending, exit, through, offer, receiving, merge, flowsWith, outflow, moved};
 ghost use Rattle.road.specs.Values.{linkOf, rampOf, stateOf, junctionOf, flowsOf};
 use crate::Flows;
 use crate::Junction;
@@ -52,12 +52,20 @@ pub fn sending(link: Link, vehicles: Units, limit: Speed) -> Units
     }
 }
 
-// Rule 2.
+// Rule 2: what leaves by the off-ramp.
+pub fn exit(flow: Units, split: Parts) -> Units
+    requires { ⌜ split .0 ≤ 65536 ⌝ }
+    ensures { λ r. ⌜ (r .0 ≡ exit (flow .0) (split .0)) × (r .0 ≤ flow .0) ⌝ }
+{
+    Units(share(flow.0, split.0, 65536))
+}
+
+// Rule 2: the rest.
 pub fn through(flow: Units, split: Parts) -> Units
     requires { ⌜ split .0 ≤ 65536 ⌝ }
     ensures { λ r. ⌜ r .0 ≡ through (flow .0) (split .0) ⌝ }
 {
-    Units(flow.0 - share(flow.0, split.0, 65536))
+    Units(flow.0 - exit(flow, split).0)
 }
 
 // Rule 3.

@@ -46,3 +46,9 @@ pub struct Flows {
     pub main: Units,
     pub ramp: Units,
 }
+
+// What a record says of the flow that leaves by a node's off-ramp: nothing in kind 3, which has no word for it, and a flow in kind 7.
+pub enum Exit {
+    Unsaid,
+    Said(Units),
+}

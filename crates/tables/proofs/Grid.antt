@@ -130,7 +130,7 @@ placed-stored c i n word d l at v vs p h e w =
     subst (λ (j : ℕ). Filled j (cell c word) d (stores (set l at v) at 1 vs)) t (subst (λ (k : List ℕ). Filled (i * c + c) (cell c word) d k) s f) in
     record { bound = omega arith; room = sym (g .same) ∙ p .is .same ∙ p .room; is = g }
 
--- the same as the code stores them: two words, and four
+-- the same as the code stores them: two words, four, and five
 pub placed-two : (i n : ℕ) (word : ℕ → ℕ → ℕ) (d l : List ℕ) (at v₀ v₁ : ℕ) → Placed 2 i n word d l → i < n → at ≡ i * 2
     → v₀ ≡ word i 0 → v₁ ≡ word i 1 → Placed 2 (i + 1) n word d (set (set l at v₀) (at + 1) v₁)
 unfolding tabulate
@@ -141,6 +141,12 @@ pub placed-four : (i n : ℕ) (word : ℕ → ℕ → ℕ) (d l : List ℕ) (at 
     → Placed 4 (i + 1) n word d (set (set (set (set l at v₀) (at + 1) v₁) (at + 2) v₂) (at + 3) v₃)
 unfolding tabulate
 placed-four i n word d l at v₀ v₁ v₂ v₃ p h e e₀ e₁ e₂ e₃ = placed-stored 4 i n word d l at v₀ (v₁ ∷ v₂ ∷ v₃ ∷ []) p h e (cc)
+
+pub placed-five : (i n : ℕ) (word : ℕ → ℕ → ℕ) (d l : List ℕ) (at v₀ v₁ v₂ v₃ v₄ : ℕ) → Placed 5 i n word d l → i < n → at ≡ i * 5
+    → v₀ ≡ word i 0 → v₁ ≡ word i 1 → v₂ ≡ word i 2 → v₃ ≡ word i 3 → v₄ ≡ word i 4
+    → Placed 5 (i + 1) n word d (set (set (set (set (set l at v₀) (at + 1) v₁) (at + 2) v₂) (at + 3) v₃) (at + 4) v₄)
+unfolding tabulate
+placed-five i n word d l at v₀ v₁ v₂ v₃ v₄ p h e e₀ e₁ e₂ e₃ e₄ = placed-stored 5 i n word d l at v₀ (v₁ ∷ v₂ ∷ v₃ ∷ v₄ ∷ []) p h e (cc)
 
 pub placed-ended : (c i n : ℕ) (word : ℕ → ℕ → ℕ) (d l : List ℕ) → Placed c i n word d l → n ≤ i → l ≡ rowWords c n word
 unfolding rowWords
