@@ -5,18 +5,18 @@ use Rattle.faults.proofs.inner.records.fixed_fault.Statement.{statement
 use Rattle.faults.proofs.inner.records.fixed_fault.Tie as tie
 
 returns : tie.Need-returns
-returns c road l s e = fixed-first road _ _ _ _ _ _ _ l s e _ (c .before .start-kept .ensures) (c .if1 .taken)
+returns c road l s e = fixed-first road _ _ _ _ _ _ _ _ l s e _ (c .before .start-kept .ensures) (c .if1 .taken)
 
 returns-2 : tie.Need-returns-2
 returns-2 c road l s e =
     let a = c .before .before in
-    fixed-last road _ _ _ _ _ _ _ l s e _ (a .before .start-kept .ensures) (a .if1 .left) _ (c .before .zeros-kept .ensures) (c .if2 .taken)
+    fixed-last road _ _ _ _ _ _ _ _ l s e _ (a .before .start-kept .ensures) (a .if1 .left) _ (c .before .zeros-kept .ensures) (c .if2 .taken)
 
 returns-3 : tie.Need-returns-3
 returns-3 c road l s e =
     let b = c .before .before in
     let a = b .before .before in
-    fixed-entry road _ _ _ _ _ _ _ l s e _ (a .before .start-kept .ensures) (a .if1 .left) _ (b .before .zeros-kept .ensures) (b .if2 .left) _
+    fixed-entry road _ _ _ _ _ _ _ _ l s e _ (a .before .start-kept .ensures) (a .if1 .left) _ (b .before .zeros-kept .ensures) (b .if2 .left) _
     (c .before .zeros-kept2 .ensures) (c .if3 .taken)
 
 returns-4 : tie.Need-returns-4
@@ -24,7 +24,7 @@ returns-4 c road l s e =
     let d = c .before .before in
     let b = d .before .before in
     let a = b .before .before in
-    fixed-exit road _ _ _ _ _ _ _ l s e _ (a .before .start-kept .ensures) (a .if1 .left) _ (b .before .zeros-kept .ensures) (b .if2 .left) _
+    fixed-exit road _ _ _ _ _ _ _ _ l s e _ (a .before .start-kept .ensures) (a .if1 .left) _ (b .before .zeros-kept .ensures) (b .if2 .left) _
     (d .before .zeros-kept2 .ensures) (d .if3 .left) _ (c .before .zeros-kept3 .ensures) (c .if4 .taken)
 
 returns-5 : tie.Need-returns-5
@@ -32,7 +32,7 @@ returns-5 c road l s e =
     let d = c .before .before in
     let b = d .before .before in
     let a = b .before .before in
-    fixed-none road _ _ _ _ _ _ _ l s e _ (a .before .start-kept .ensures) (a .if1 .left) _ (b .before .zeros-kept .ensures) (b .if2 .left) _
+    fixed-none road _ _ _ _ _ _ _ _ l s e _ (a .before .start-kept .ensures) (a .if1 .left) _ (b .before .zeros-kept .ensures) (b .if2 .left) _
     (d .before .zeros-kept2 .ensures) (d .if3 .left) _ (c .before .zeros-kept3 .ensures) (c .if4 .left)
 
 pub fixed-fault-spec : {M : Type 1} → statement M

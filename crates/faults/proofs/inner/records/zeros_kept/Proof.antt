@@ -4,7 +4,7 @@ use Rattle.faults.proofs.inner.records.zeros_kept.Statement.{statement}
 use Rattle.faults.proofs.inner.records.zeros_kept.Tie as tie
 
 returns : tie.Need-returns
-returns c = simp (c .before .if1 .taken, c .both-zero .ensures)
+returns c = simp (c .before .if1 .taken, c .all-zero .ensures)
 
 pub zeros-kept-spec : {M : Type 1} → statement M
 zeros-kept-spec = tie.close (tie.spec (λ c κs. search needs) returns (λ c. search needs))
