@@ -6,17 +6,19 @@ use Rattle.road.specs.Corridor.{Road, Plan}
 use Rattle.road.specs.Run.{run}
 use Rattle.road.specs.Limits.{Limits}
 use Rattle.road.proofs.Sizes.{run-flows-fit, run-state-fits, run-cost}
+use Rattle.road.proofs.Zeros.{run-exit-le}
 use Rattle.lists.specs.Words.{nodeWord, traceWord, recordWords}
 use Rattle.lists.proofs.Words.{record-each}
 
 module _ (width : ℕ) (road : Road) (limits : Limits road) (plan : Plan) where
-  -- n, l, f and r
-  trace-word-fits : (k i q : ℕ) → k ≤ road .steps → i ≤ road .links → traceWord (run road plan) k i q < 4294967296
+  -- n, l, f, r and the exit, which is no more than f
+  trace-word-fits : (k i q : ℕ) → k ≤ road .steps → i ≤ road .links → traceWord road (run road plan) k i q < 4294967296
   unfolding nodeWord run
   trace-word-fits k i zero hk hi = omega (arith, run-state-fits road limits plan k i hk hi .vehicles)
   trace-word-fits k i (suc zero) hk hi = omega (arith, run-state-fits road limits plan k i hk hi .queue)
   trace-word-fits k i (suc (suc zero)) hk hi = omega (arith, run-flows-fit road limits plan k i hk hi .main)
-  trace-word-fits k i (suc (suc (suc q))) hk hi = omega (arith, run-flows-fit road limits plan k i hk hi .ramp)
+  trace-word-fits k i (suc (suc (suc zero))) hk hi = omega (arith, run-flows-fit road limits plan k i hk hi .ramp)
+  trace-word-fits k i (suc (suc (suc (suc q)))) hk hi = omega (arith, run-exit-le road limits plan k i hk hi, run-flows-fit road limits plan k i hk hi .main)
 
   pub record-fits : (j : ℕ) → getD (recordWords width road (run road plan)) j 0 < 4294967296
   record-fits =

@@ -1,17 +1,19 @@
 -- What the test of all lengths gives: the facts that the functions on the lists ask for.
-use Prim.Native.Nat.{ℕ, _+_, _*_, _≤_}
-use mathlib.Core.Bool.{Bool, true, _||_}
-use mathlib.Core.Path.{_≡_, sym, ap, ap₂, _∙_}
+use Prim.Native.Nat.{ℕ, suc, _+_, _*_, _≤_, _<_}
+use mathlib.Core.Bool.{Bool, true, false, cond, _||_, or-true, or-false}
+use mathlib.Core.Path.{_≡_, refl, sym, ap, ap₂, subst, _∙_}
 use mathlib.Core.List.{List}
-use mathlib.Core.Logic.{⊎-elim}
+use mathlib.Core.Logic.{_↔_, ⊎-elim}
 use native.Mathlib.Nat.{mul-le-mul}
 use native.Mathlib.Numerals.{add-one}
 use native.Mathlib.Omega.{arith}
 use borrow.Author.Tests.{eq-eqb, ne-eqb}
 use lib.Dec.{eqb}
 use lib.ListN.{length}
-use Rattle.lists.specs.Words.{linksOf, stepsOf, demandsLength, downstreamLength, planLength}
-use Rattle.lists.specs.Refusals.{demandsSized, sizes}
+use Rattle.lists.specs.Words.{linksOf, stepsOf, demandsLength, downstreamLength, planLength, Width, recordLength, recordWidth, widthOf}
+use Rattle.tables.proofs.Numbers.{le-or-lt}
+use Rattle.faults.proofs.Tests.{eq-holds}
+use Rattle.lists.specs.Refusals.{demandsSized, recordSized, sizes}
 use Rattle.lists.specs.Fits.{CorridorFits, DemandsFit}
 use Rattle.lists.specs.Scans.{lengthsFit}
 use Rattle.lists.proofs.Corridors.{sized-words}
@@ -41,6 +43,67 @@ module _ (links steps count rows : ℕ) (e : rows ≡ steps * ((links + 1) * 2))
   long-sized h =
       ap (λ (n : ℕ). eqb count (n + steps)) short-is
       ∙ ap (λ (t : Bool). t || eqb count (downstreamLength links steps)) (sym (ne-eqb _ _ (λ q. h (q ∙ sym short-is))))
+
+-- ---- the two lengths of a record
+
+pub record-wide : (links steps count : ℕ) → Width (recordWidth links steps count)
+unfolding recordWidth
+record-wide links steps count = by-kind (eqb count (recordLength 5 links steps))
+  where
+    by-kind : (t : Bool) → Width (cond t 5 4)
+    by-kind true = record { least = omega arith; most = omega arith }
+    by-kind false = record { least = omega arith; most = omega arith }
+
+-- m is the length of kind 7 as a call gave it
+pub told-seven : (links steps count m : ℕ) → m ≡ recordLength 5 links steps → count ≡ m → 5 ≡ recordWidth links steps count
+unfolding recordWidth
+told-seven links steps count m e h = simp (eq-eqb count (recordLength 5 links steps) (h ∙ e))
+
+pub told-three : (links steps count m : ℕ) → m ≡ recordLength 5 links steps → (count ≡ m → ⊥) → 4 ≡ recordWidth links steps count
+unfolding recordWidth
+told-three links steps count m e h = simp (ne-eqb count (recordLength 5 links steps) (λ q. h (q ∙ sym e)))
+
+-- a list has the length of the kind that its length tells, or of none
+pub record-sized-is : (links steps count : ℕ) → eqb count (recordLength (recordWidth links steps count) links steps) ≡ recordSized links steps count
+unfolding recordWidth recordSized
+record-sized-is links steps count = by-kind (eqb count (recordLength 5 links steps)) refl
+  where
+    by-kind : (t : Bool) → eqb count (recordLength 5 links steps) ≡ t → eqb count (recordLength (cond t 5 4) links steps) ≡ (eqb count (recordLength 4 links steps) || t)
+    by-kind true e = e ∙ sym (or-true (eqb count (recordLength 4 links steps)))
+    by-kind false e = sym (or-false (eqb count (recordLength 4 links steps)))
+
+pub record-sized-iff : (links steps count : ℕ) → (recordSized links steps count ≡ true) ↔ (count ≡ recordLength (recordWidth links steps count) links steps)
+record-sized-iff links steps count =
+    let is = record-sized-is links steps count in
+    let r = eq-holds count (recordLength (recordWidth links steps count) links steps) in
+    (λ e. r .0 (is ∙ e), λ e. sym is ∙ r .1 e)
+
+-- width and length as calls gave them
+pub record-sized-told : (links steps count width m : ℕ) → width ≡ recordWidth links steps count → m ≡ recordLength width links steps → eqb count m ≡ recordSized links steps count
+record-sized-told links steps count width m e h =
+    ap (eqb count) (h ∙ ap (λ (w : ℕ). recordLength w links steps) e) ∙ record-sized-is links steps count
+
+-- width, links and steps as calls gave them
+pub width-told : (corridor demands : List ℕ) (links steps count width : ℕ) → links ≡ linksOf corridor → steps ≡ stepsOf demands → width ≡ recordWidth links steps count
+    → width ≡ widthOf corridor demands count
+width-told corridor demands links steps count width n k w = w ∙ ap₂ (λ (x y : ℕ). recordWidth x y count) n k
+
+-- a list of the length of a kind is of that kind
+pub width-is : (width links steps : ℕ) → Width width → recordWidth links steps (recordLength width links steps) ≡ width
+width-is width links steps w =
+    ⊎-elim
+    (λ (h : 5 ≤ width).
+    let e : 5 ≡ width = omega (arith, w .most) in
+    subst (λ (x : ℕ). recordWidth links steps (recordLength x links steps) ≡ x) e (sym (told-seven links steps (recordLength 5 links steps) (recordLength 5 links steps) refl refl)))
+    (λ (h : width < 5).
+    let e : 4 ≡ width = omega (arith, w .least) in
+    subst (λ (x : ℕ). recordWidth links steps (recordLength x links steps) ≡ x) e
+    (sym (told-three links steps (recordLength 4 links steps) (recordLength 5 links steps) refl
+    (λ q. omega (arith, shorter)))))
+    (le-or-lt 5 width)
+  where
+    shorter : recordLength 4 links steps < recordLength 5 links steps
+    shorter = omega arith
 
 -- ---- links and steps are N and K as the code has them
 

@@ -10,7 +10,7 @@ use Rattle.tables.specs.First.{firstNode, firstPlace}
 use Rattle.tables.specs.Least.{least}
 use Rattle.road.specs.Corridor.{Road, Plan, nodes}
 use Rattle.faults.specs.Lists.{within, linkFault, rampFault, startFault, demandFault, planFault}
-use Rattle.lists.specs.Words.{linksOf, stepsOf, roadOf, planOf, corridorLength, demandsLength, downstreamLength}
+use Rattle.lists.specs.Words.{linksOf, stepsOf, roadOf, planOf, corridorLength, demandsLength, downstreamLength, recordLength}
 
 -- ---- 1. N, K or any list's length wrong
 
@@ -21,6 +21,10 @@ corridorSized links count = eqb count (corridorLength 9 links) || eqb count (cor
 -- the length of demands: that of kind 2, or that of kind 5
 unfoldable pub demandsSized : ℕ → ℕ → ℕ → Bool
 demandsSized links steps count = eqb count (demandsLength links steps) || eqb count (downstreamLength links steps)
+
+-- the length of a record: that of kind 3, or that of kind 7
+unfoldable pub recordSized : ℕ → ℕ → ℕ → Bool
+recordSized links steps count = eqb count (recordLength 4 links steps) || eqb count (recordLength 5 links steps)
 
 unfoldable pub sizes : List ℕ → List ℕ → Bool
 sizes corridor demands =

@@ -1,11 +1,14 @@
--- The word lists of document 01 and of requests 01 and 07: where each word stands, how long each list is, and what corridor, demands, plan and record the words say.
+-- The word lists of document 01 and of requests 01, 04 and 07: where each word stands, how long each list is, and what corridor, demands, plan and record the words say.
 use Prim.Native.Nat.{ℕ, zero, suc, _+_, _*_, _/_, _%_, _≤_}
 use mathlib.Core.List.{List, [], _∷_, _++_}
 use mathlib.Core.Bool.{cond}
-use lib.Dec.{eqb}
+use lib.Dec.{eqb, ltb}
 use lib.ListN.{length, getD}
 use Rattle.tables.specs.Grid.{grid, place}
+use Rattle.road.specs.declared.Exit.{Exit}
+use Rattle.road.specs.declared.Exit.the-variants.{Unsaid, Said}
 use Rattle.road.specs.Corridor.{Node, NodeState, Flows, Road, Plan, Trace, nodes}
+use Rattle.road.specs.Step.{exit}
 use Rattle.road.specs.Run.{cost}
 
 -- ---- Corridor: N, then for nodes 0..N: identifier, F, V, W, J, C, L, starting n, starting l; in kind 10 also dropped capacity and drop density
@@ -106,16 +109,12 @@ planWord plan k i (suc q) = plan .limit k i
 unfoldable pub planWords : Road → Plan → List ℕ
 planWords road plan = grid 2 (nodes road) (road .steps) (planWord plan)
 
--- ---- Record: by state 0..K and node: n, l, f, r; then the cost as low and high 32 bits
+-- ---- Record: by state 0..K and node: n, l, f, r, and in kind 7 the off-ramp flow; then the cost as low and high 32 bits
 
--- how many words a node has in a record; definitions and laws take it as `width`
-abbrev pub recordWidth : ℕ
-recordWidth = 4
-
--- what laws use of it
+-- how many words a node has: 4 in kind 3, 5 in kind 7; definitions and laws take it as `width`
 pub record Width (width : ℕ) : Type 0 where
   pub least : 4 ≤ width
-  pub most : width ≤ 4
+  pub most : width ≤ 5
 
 unfoldable pub traceOf : ℕ → Road → List ℕ → Trace
 traceOf width road words =
@@ -124,18 +123,30 @@ traceOf width road words =
       flows = λ k i. record { main = getD words (place width (nodes road) k i 2) 0; ramp = getD words (place width (nodes road) k i 3) 0 };
     }
 
--- the words of a node
-unfoldable pub nodeWord : NodeState → Flows → ℕ → ℕ
-nodeWord state flows zero = state .vehicles
-nodeWord state flows (suc zero) = state .queue
-nodeWord state flows (suc (suc zero)) = flows .main
-nodeWord state flows (suc (suc (suc q))) = flows .ramp
+-- what a record says of a node's off-ramp flow, where `word` is the one after r: in kind 3 it is another node's, and nothing is said
+unfoldable pub exitSaid : ℕ → ℕ → Exit
+exitSaid width word = cond (ltb 4 width) (Said (record { 0 = word })) Unsaid
 
-abbrev pub traceWord : Trace → ℕ → ℕ → ℕ → ℕ
-traceWord trace k i = nodeWord (trace .state k i) (trace .flows k i)
+abbrev pub exitsOf : ℕ → Road → List ℕ → ℕ → ℕ → Exit
+exitsOf width road words k i = exitSaid width (getD words (place width (nodes road) k i 4) 0)
+
+-- the words of a node, its off-ramp flow the fifth
+unfoldable pub nodeWord : NodeState → Flows → ℕ → ℕ → ℕ
+nodeWord state flows off zero = state .vehicles
+nodeWord state flows off (suc zero) = state .queue
+nodeWord state flows off (suc (suc zero)) = flows .main
+nodeWord state flows off (suc (suc (suc zero))) = flows .ramp
+nodeWord state flows off (suc (suc (suc (suc q)))) = off
+
+-- the flow that leaves by the off-ramp of node i in step k: x × b / 65,536 of its f
+abbrev pub exitAt : Road → Trace → ℕ → ℕ → ℕ
+exitAt road trace k i = exit (trace .flows k i .main) (road .split k i)
+
+abbrev pub traceWord : Road → Trace → ℕ → ℕ → ℕ → ℕ
+traceWord road trace k i = nodeWord (trace .state k i) (trace .flows k i) (exitAt road trace k i)
 
 unfoldable pub traceWords : ℕ → Road → Trace → List ℕ
-traceWords width road trace = grid width (nodes road) (suc (road .steps)) (traceWord trace)
+traceWords width road trace = grid width (nodes road) (suc (road .steps)) (traceWord road trace)
 
 abbrev pub lowHigh : ℕ → List ℕ
 lowHigh n = n % 4294967296 ∷ n / 4294967296 ∷ []
@@ -154,3 +165,10 @@ traceLength width links steps = suc steps * (suc links * width)
 
 abbrev pub recordLength : ℕ → ℕ → ℕ → ℕ
 recordLength width links steps = traceLength width links steps + 2
+
+-- "a lent record too" tells its kind by its length: the width of a record of `count` words, for this N and K
+unfoldable pub recordWidth : ℕ → ℕ → ℕ → ℕ
+recordWidth links steps count = cond (eqb count (recordLength 5 links steps)) 5 4
+
+abbrev pub widthOf : List ℕ → List ℕ → ℕ → ℕ
+widthOf corridor demands count = recordWidth (linksOf corridor) (stepsOf demands) count

@@ -11,11 +11,11 @@ use Rattle.tables.specs.declared.Answer.{Answer}
 use Rattle.tables.specs.declared.Answer.the-variants.{Accepted}
 use Rattle.tables.specs.Answer.{orElse, sized}
 use Rattle.tables.proofs.Answers.{Refuses, orElse-accepts, or-else-stop, or-else-next}
-use Rattle.lists.specs.Words.{linksOf, stepsOf, roadOf, planOf, recordWidth, planLength, recordLength}
-use Rattle.lists.specs.Refusals.{sizes, ranges, bounds, planBounds}
+use Rattle.lists.specs.Words.{linksOf, stepsOf, roadOf, planOf, planLength, recordLength, widthOf}
+use Rattle.lists.specs.Refusals.{recordSized, sizes, ranges, bounds, planBounds}
 use Rattle.faults.proofs.Tests.{both-hold, eq-holds}
 use Rattle.lists.proofs.Limits.{sizes-iff, sized-iff, ranges-iff, bounds-iff}
-use Rattle.lists.proofs.Sizes.{corridor-fits, demands-long}
+use Rattle.lists.proofs.Sizes.{corridor-fits, demands-long, record-sized-iff}
 use Rattle.simulate.specs.Simulate.{simulateSizes, simulateAnswer, Sound}
 
 -- N and K in range, as the code has them
@@ -41,23 +41,23 @@ module _ (corridor demands plan : List ℕ) (room : ℕ) where
         let f : eqb (length plan) (planLength (linksOf corridor) (stepsOf demands)) ≡ false = ne-eqb (length plan) (planLength (linksOf corridor) (stepsOf demands)) (λ g. d (g ∙ sym is)) in
         rw (q, f)
 
-    pub record-decides : (m r : ℕ) → m ≡ planLength links steps → length plan ≡ m → r ≡ recordLength recordWidth links steps → eqb room r ≡ simulateSizes corridor demands plan room
+    pub record-decides : (m : ℕ) (r : Bool) → m ≡ planLength links steps → length plan ≡ m → r ≡ recordSized links steps room → r ≡ simulateSizes corridor demands plan room
     unfolding simulateSizes
     record-decides m r p d s =
         let q : sizes corridor demands ≡ true = sym e ∙ h in
         let f : eqb (length plan) (planLength (linksOf corridor) (stepsOf demands)) ≡ true = eq-eqb (length plan) (planLength (linksOf corridor) (stepsOf demands)) (d ∙ p ∙ ap₂ (λ (x y : ℕ). planLength x y) n k) in
-        rw (q, f) (ap (λ (x : ℕ). eqb room x) (s ∙ ap₂ (λ (x y : ℕ). recordLength recordWidth x y) n k))
+        rw (q, f) (s ∙ ap₂ (λ (x y : ℕ). recordSized x y room) n k)
 
   pub record Lengths : Type 0 where
     pub listed : sizes corridor demands ≡ true
     pub planFits : length plan ≡ planLength (linksOf corridor) (stepsOf demands)
-    pub roomFits : room ≡ recordLength recordWidth (linksOf corridor) (stepsOf demands)
+    pub roomFits : room ≡ recordLength (widthOf corridor demands room) (linksOf corridor) (stepsOf demands)
 
   pub lengths : simulateSizes corridor demands plan room ≡ true → Lengths
   unfolding simulateSizes
   lengths e =
       let plan-test = eq-holds (length plan) (planLength (linksOf corridor) (stepsOf demands)) in
-      let room-test = eq-holds room (recordLength recordWidth (linksOf corridor) (stepsOf demands)) in
+      let room-test = record-sized-iff (linksOf corridor) (stepsOf demands) room in
       let all = both-hold (sizes corridor demands) _ (λ h. h, λ h. h) (both-hold _ _ plan-test room-test) .0 e in
       record { listed = all .0; planFits = all .1 .0; roomFits = all .1 .1 }
 

@@ -9,10 +9,10 @@ use Rattle.road.specs.Step.{discharge, sending, exit, through, offer, receiving
 use Rattle.road.specs.Run.{supply, junction, inflow, next, planFlows, stateAt, noFlow, run, cost}
 use Rattle.lists.specs.Words.{linksOf, byKind, nodeAt, stepsOf, roadOf, planOf, nodeWord, traceWords, recordWords}
 use Rattle.faults.specs.Lists.{linkFault, rampFault, startFault, demandFault, planFault}
-use Rattle.lists.specs.Refusals.{corridorSized, demandsSized, sizes, fresh, linkRefusal, rampRefusal, startRefusal, demandRefusal, ranges, bounds}
+use Rattle.lists.specs.Refusals.{corridorSized, demandsSized, recordSized, sizes, fresh, linkRefusal, rampRefusal, startRefusal, demandRefusal, ranges, bounds}
 use Rattle.simulate.specs.Simulate.{simulateSizes, simulateAnswer, simulated}
 use Rattle.simulate.specs.B.{Case1}
 
 pub case-1 : Case1
-unfolding first cell grid leastFrom sum tabulate discharge sending exit through offer receiving passed merge flowsWith outflow moved supply junction inflow next planFlows stateAt noFlow run cost linksOf byKind nodeAt stepsOf roadOf planOf nodeWord traceWords recordWords corridorSized demandsSized sizes linkFault fresh rampFault startFault demandFault planFault linkRefusal rampRefusal startRefusal demandRefusal ranges bounds simulateSizes simulateAnswer simulated
+unfolding first cell grid leastFrom sum tabulate discharge sending exit through offer receiving passed merge flowsWith outflow moved supply junction inflow next planFlows stateAt noFlow run cost linksOf byKind nodeAt stepsOf roadOf planOf nodeWord traceWords recordWords corridorSized demandsSized recordSized sizes linkFault fresh rampFault startFault demandFault planFault linkRefusal rampRefusal startRefusal demandRefusal ranges bounds simulateSizes simulateAnswer simulated
 case-1 = record { accepted = refl; simulates = refl }

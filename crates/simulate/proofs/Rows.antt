@@ -1,79 +1,109 @@
 -- Laws of a step on its rows: the loops that write a row node by node, and what the rows of a step keep.
 use Prim.Native.Nat.{ℕ, zero, suc, _+_, _-_, _*_, _≤_, _<_}
+use mathlib.Core.Bool.{Bool, true, false, cond}
 use mathlib.Core.List.{List, []}
 use mathlib.Core.Path.{_≡_, refl, sym, ap, ap₂, subst, _∙_}
+use mathlib.Core.Logic.{⊎-elim}
 use native.Mathlib.Nat.{le-trans}
 use native.Mathlib.Numerals.{add-one}
 use native.Mathlib.Omega.{arith}
-use lib.Dec.{lit<}
-use lib.ListN.{getD}
+use lib.Dec.{lit<, ltb}
+use lib.ListN.{length, getD, set, length-set}
 use Rattle.tables.specs.Grid.{rowWords}
-use Rattle.tables.proofs.Numbers.{row-fits}
-use Rattle.tables.proofs.Grid.{rowWords-length, rowWords-at, Placed, placed-begun, placed-four, placed-ended}
+use Rattle.tables.proofs.Numbers.{le-or-lt, row-fits}
+use Rattle.tables.proofs.Grid.{rowWords-length, rowWords-at, Placed, placed-begun, placed-four, placed-five, placed-ended}
 use Rattle.tables.proofs.Sum.{Summed, summed-ended}
 use Rattle.road.specs.declared.Junction as junctions
 use Rattle.road.specs.declared.NodeState as states
 use Rattle.road.specs.declared.Flows as flows
 use Rattle.road.specs.Corridor.{NodeState, Road, Flows}
-use Rattle.road.specs.Step.{Junction, flowsWith, outflow}
+use Rattle.road.specs.Step.{Junction, exit, flowsWith, outflow}
 use Rattle.road.specs.Run.{junction, inflow, stateCost}
 use Rattle.road.specs.Values.{stateOf, junctionOf, flowsOf}
 use Rattle.road.proofs.Rules.{state-eq, flows-eq, sending-le, through-le, flows-sent, flows-offered}
 use Rattle.lists.specs.Words.{Width, nodeWord}
 use Rattle.lists.specs.Rows.{stateIn, flowsIn, stepRoad}
 use Rattle.lists.specs.Fits.{RowFits, NodeIn, JamKept}
-use Rattle.simulate.specs.Rows.{rowOf, putNode, rowFlows, flowRow, rowCost, RowKept, RowsFit}
+use Rattle.simulate.specs.Rows.{rowOf, putExit, putNode, rowFlows, flowRow, rowCost, RowKept, RowsFit}
 
 -- ---- a row that is written node by node
 
--- as a loop's invariant: the first i nodes of the row have these states and flows
-abbrev pub Written : ℕ → ℕ → ℕ → (ℕ → NodeState) → (ℕ → Flows) → List ℕ → List ℕ → Type 0
-Written width i links state flows d l = Placed width i (links + 1) (λ j. nodeWord (state j) (flows j)) d l
+pub put-exit-length : (width : ℕ) (row : List ℕ) (i off : ℕ) → length (putExit width row i off) ≡ length row
+unfolding putExit
+put-exit-length width row i off = by-width (ltb 4 width)
+  where
+    by-width : (t : Bool) → length (cond t (set row (i * width + 4) off) row) ≡ length row
+    by-width true = length-set row (i * width + 4) off
+    by-width false = refl
 
-pub written-begun : (width links : ℕ) (state : ℕ → NodeState) (flows : ℕ → Flows) (d : List ℕ) → RowFits width d links → Written width 0 links state flows d d
-written-begun width links state flows d e = placed-begun width (links + 1) (λ j. nodeWord (state j) (flows j)) d (omega arith)
+-- as a loop's invariant: the first i nodes of the row have these states, flows and off-ramp flows
+abbrev pub Written : ℕ → ℕ → ℕ → (ℕ → NodeState) → (ℕ → Flows) → (ℕ → ℕ) → List ℕ → List ℕ → Type 0
+Written width i links state flows off d l = Placed width i (links + 1) (λ j. nodeWord (state j) (flows j) (off j)) d l
 
--- s and f are the node's state and flows as calls gave them
-pub written-more : (width i links : ℕ) (state : ℕ → NodeState) (flows : ℕ → Flows) (d l l′ : List ℕ) (s : NodeState) (f : Flows) → Width width
-    → Written width i links state flows d l → i < links + 1 → s ≡ state i → f ≡ flows i → l′ ≡ putNode width l i s f → Written width (i + 1) links state flows d l′
-unfolding nodeWord putNode
-written-more width i links state flows d l l′ s f wide w h e q p =
-    let four : 4 ≡ width = omega (arith, wide .least, wide .most) in
-    let word : ℕ → ℕ → ℕ = λ j. nodeWord (state j) (flows j) in
-    subst (λ (x : List ℕ). Written width (i + 1) links state flows d x) (sym p)
-    (subst (λ (c : ℕ). Placed c i (links + 1) word d l → Placed c (i + 1) (links + 1) word d (putNode c l i s f)) four
-    (λ v.
-    placed-four i (links + 1) word d l (i * 4) (s .vehicles) (s .queue) (f .main) (f .ramp) v h refl
-    (ap (λ (x : NodeState). x .vehicles) e) (ap (λ (x : NodeState). x .queue) e) (ap (λ (x : Flows). x .main) q) (ap (λ (x : Flows). x .ramp) q))
-    w)
+pub written-begun : (width links : ℕ) (state : ℕ → NodeState) (flows : ℕ → Flows) (off : ℕ → ℕ) (d : List ℕ) → RowFits width d links → Written width 0 links state flows off d d
+written-begun width links state flows off d e = placed-begun width (links + 1) (λ j. nodeWord (state j) (flows j) (off j)) d (omega arith)
 
-pub written-ended : (width i links : ℕ) (state : ℕ → NodeState) (flows : ℕ → Flows) (d l : List ℕ) → Written width i links state flows d l → links + 1 ≤ i
-    → l ≡ rowOf width links state flows
+-- s, f and x are the node's state, flows and off-ramp flow as calls gave them
+module _ (i links : ℕ) (state : ℕ → NodeState) (flows : ℕ → Flows) (off : ℕ → ℕ) (d l : List ℕ) (s : NodeState) (f : Flows) (x : ℕ) (h : i < links + 1) (e : s ≡ state i) (q : f ≡ flows i) where
+  more-four : Written 4 i links state flows off d l → Written 4 (i + 1) links state flows off d (putNode 4 l i s f x)
+  unfolding nodeWord putNode putExit
+  more-four w =
+      placed-four i (links + 1) (λ j. nodeWord (state j) (flows j) (off j)) d l (i * 4) (s .vehicles) (s .queue) (f .main) (f .ramp) w h refl
+      (ap (λ (y : NodeState). y .vehicles) e) (ap (λ (y : NodeState). y .queue) e) (ap (λ (y : Flows). y .main) q) (ap (λ (y : Flows). y .ramp) q)
+
+  more-five : x ≡ off i → Written 5 i links state flows off d l → Written 5 (i + 1) links state flows off d (putNode 5 l i s f x)
+  unfolding nodeWord putNode putExit
+  more-five g w =
+      placed-five i (links + 1) (λ j. nodeWord (state j) (flows j) (off j)) d l (i * 5) (s .vehicles) (s .queue) (f .main) (f .ramp) x w h refl
+      (ap (λ (y : NodeState). y .vehicles) e) (ap (λ (y : NodeState). y .queue) e) (ap (λ (y : Flows). y .main) q) (ap (λ (y : Flows). y .ramp) q) g
+
+pub written-more : (width i links : ℕ) (state : ℕ → NodeState) (flows : ℕ → Flows) (off : ℕ → ℕ) (d l l′ : List ℕ) (s : NodeState) (f : Flows) (x : ℕ) → Width width
+    → Written width i links state flows off d l → i < links + 1 → s ≡ state i → f ≡ flows i → x ≡ off i → l′ ≡ putNode width l i s f x
+    → Written width (i + 1) links state flows off d l′
+written-more width i links state flows off d l l′ s f x wide w h e q g p =
+    subst (λ (y : List ℕ). Written width (i + 1) links state flows off d y) (sym p)
+    (⊎-elim
+    (λ (b : 5 ≤ width).
+    let five : 5 ≡ width = omega (arith, wide .most) in
+    subst (λ (c : ℕ). Written c i links state flows off d l → Written c (i + 1) links state flows off d (putNode c l i s f x)) five
+    (more-five i links state flows off d l s f x h e q g) w)
+    (λ (b : width < 5).
+    let four : 4 ≡ width = omega (arith, wide .least) in
+    subst (λ (c : ℕ). Written c i links state flows off d l → Written c (i + 1) links state flows off d (putNode c l i s f x)) four
+    (more-four i links state flows off d l s f x h e q) w)
+    (le-or-lt 5 width))
+
+pub written-ended : (width i links : ℕ) (state : ℕ → NodeState) (flows : ℕ → Flows) (off : ℕ → ℕ) (d l : List ℕ) → Written width i links state flows off d l → links + 1 ≤ i
+    → l ≡ rowOf width links state flows off
 unfolding rowOf
-written-ended width i links state flows d l w h =
-    placed-ended width i (links + 1) (λ j. nodeWord (state j) (flows j)) d l w h
-    ∙ ap (λ (n : ℕ). rowWords width n (λ j. nodeWord (state j) (flows j))) (add-one links)
+written-ended width i links state flows off d l w h =
+    placed-ended width i (links + 1) (λ j. nodeWord (state j) (flows j) (off j)) d l w h
+    ∙ ap (λ (n : ℕ). rowWords width n (λ j. nodeWord (state j) (flows j) (off j))) (add-one links)
 
 -- the row that is being written has the node's words
-pub written-room : (width i links : ℕ) (state : ℕ → NodeState) (flows : ℕ → Flows) (d l : List ℕ) → Written width i links state flows d l → i < links + 1 → NodeIn width l i
-written-room width i links state flows d l w h = omega (arith, row-fits i (links + 1) width h, w .room)
+pub written-room : (width i links : ℕ) (state : ℕ → NodeState) (flows : ℕ → Flows) (off : ℕ → ℕ) (d l : List ℕ) → Written width i links state flows off d l → i < links + 1 → NodeIn width l i
+written-room width i links state flows off d l w h = omega (arith, row-fits i (links + 1) width h, w .room)
+
+-- x is what leaves by an off-ramp, f its node's flows and b its split, as calls gave them
+pub exit-told : (x b right : ℕ) (f : flows.Flows) (g : Flows) → x ≡ exit (f .main .0) b → flowsOf f ≡ g → b ≡ right → x ≡ exit (g .main) right
+exit-told x b right f g e q p = e ∙ ap₂ exit (ap (λ (y : Flows). y .main) q) p
 
 -- ---- a row read again
 
-pub row-length : (width links : ℕ) (state : ℕ → NodeState) (flows : ℕ → Flows) → RowFits width (rowOf width links state flows) links
+pub row-length : (width links : ℕ) (state : ℕ → NodeState) (flows : ℕ → Flows) (off : ℕ → ℕ) → RowFits width (rowOf width links state flows off) links
 unfolding rowOf
-row-length width links state flows = rowWords-length width (suc links) (λ j. nodeWord (state j) (flows j))
+row-length width links state flows off = rowWords-length width (suc links) (λ j. nodeWord (state j) (flows j) (off j))
 
-module _ (width : ℕ) (wide : Width width) (links : ℕ) (state : ℕ → NodeState) (flows : ℕ → Flows) (i : ℕ) (h : i ≤ links) where
-  word : (q : ℕ) → q < 4 → getD (rowOf width links state flows) (i * width + q) 0 ≡ nodeWord (state i) (flows i) q
+module _ (width : ℕ) (wide : Width width) (links : ℕ) (state : ℕ → NodeState) (flows : ℕ → Flows) (off : ℕ → ℕ) (i : ℕ) (h : i ≤ links) where
+  word : (q : ℕ) → q < 4 → getD (rowOf width links state flows off) (i * width + q) 0 ≡ nodeWord (state i) (flows i) (off i) q
   unfolding rowOf
-  word q b = rowWords-at width (suc links) (λ j. nodeWord (state j) (flows j)) i q 0 (omega arith) (omega (arith, wide .least))
+  word q b = rowWords-at width (suc links) (λ j. nodeWord (state j) (flows j) (off j)) i q 0 (omega arith) (omega (arith, wide .least))
 
-  pub row-state : stateIn width (rowOf width links state flows) i ≡ state i
+  pub row-state : stateIn width (rowOf width links state flows off) i ≡ state i
   unfolding stateIn nodeWord
   row-state = state-eq _ _ (word 0 (lit< tt)) (word 1 (lit< tt))
 
-  pub row-flows : flowsIn width (rowOf width links state flows) i ≡ flows i
+  pub row-flows : flowsIn width (rowOf width links state flows off) i ≡ flows i
   unfolding flowsIn nodeWord
   row-flows = flows-eq _ _ (word 2 (lit< tt)) (word 3 (lit< tt))
 
@@ -146,8 +176,8 @@ module _ (width : ℕ) (corridor demand plan state : List ℕ) (downstream links
       let j : Junction = junction (stepRoad corridor demand downstream) 0 (stateIn width state) i in
       let rate : ℕ = getD plan (i * 2 + 0) 0 in
       let limit : ℕ = getD plan (i * 2 + 1) 0 in
-      let s : stateIn width (flowRow width corridor links demand downstream plan state) i ≡ stateIn width state i = row-state width (rows .wide) links _ _ i h in
-      let f : flowsIn width (flowRow width corridor links demand downstream plan state) i ≡ flowsWith j rate limit = row-flows width (rows .wide) links _ _ i h in
+      let s : stateIn width (flowRow width corridor links demand downstream plan state) i ≡ stateIn width state i = row-state width (rows .wide) links _ _ _ i h in
+      let f : flowsIn width (flowRow width corridor links demand downstream plan state) i ≡ flowsWith j rate limit = row-flows width (rows .wide) links _ _ _ i h in
       let n = ap (λ (x : NodeState). x .vehicles) s in
       let l = ap (λ (x : NodeState). x .queue) s in
       let main = ap (λ (x : Flows). x .main) f in

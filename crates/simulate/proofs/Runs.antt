@@ -14,10 +14,13 @@ use Rattle.tables.proofs.Numbers.{row-fits}
 use Rattle.tables.proofs.Part.{part-length}
 use Rattle.tables.proofs.Sum.{sum-none, sum-more}
 use Rattle.road.specs.Corridor.{Flows}
-use Rattle.road.specs.Run.{stateAt, run, cost}
+use Rattle.road.specs.Step.{exit}
+use Rattle.road.specs.Run.{stateAt, noFlow, run, cost}
+use Rattle.road.proofs.Rules.{exit-of-none}
 use Rattle.road.proofs.Runs.{run-flows, run-last}
-use Rattle.lists.specs.Words.{linksOf, stepsOf, demandsLength, downstreamWord, roadOf, planOf, recordWidth, Width, nodeWord, traceWord, traceWords, lowHigh, recordWords, traceLength, recordLength}
+use Rattle.lists.specs.Words.{linksOf, stepsOf, demandsLength, downstreamWord, roadOf, planOf, Width, nodeWord, traceWord, traceWords, lowHigh, recordWords, traceLength, recordLength, recordWidth, widthOf}
 use Rattle.lists.specs.Fits.{CorridorFits, DemandsFit, RowFits}
+use Rattle.lists.proofs.Sizes.{width-told}
 use Rattle.lists.proofs.Words.{trace-length}
 use Rattle.simulate.specs.Rows.{rowOf, startRow, flowRow, nextRow, rowCost, StepKept, RowsFit, Stepped}
 use Rattle.simulate.specs.Simulate.{Sound, stateRow, stepRow, ranCost, runCost, runWords, Ran, RanAll, simulated}
@@ -97,7 +100,7 @@ module _ (width : ℕ) (wide : Width width) (corridor demands plan : List ℕ) (
 
     state-row-fits : RowFits width state links
     unfolding stateRow
-    state-row-fits = ap length s ∙ row-length width (linksOf corridor) _ _ ∙ ap (λ (x : ℕ). suc x * width) (sym n)
+    state-row-fits = ap length s ∙ row-length width (linksOf corridor) _ _ _ ∙ ap (λ (x : ℕ). suc x * width) (sym n)
 
     pub rows-fit : RowsFit width corridor demandRow planRow state links
     rows-fit =
@@ -193,17 +196,17 @@ module _ (width : ℕ) (corridor demands plan : List ℕ) where
 
   pub state-row-even : (k : ℕ) (state row : List ℕ) → state ≡ stateRow width corridor demands plan k → RowFits width row (linksOf corridor) → length state ≡ length row
   unfolding stateRow
-  state-row-even k state row e q = ap length e ∙ row-length width (linksOf corridor) _ _ ∙ sym q
+  state-row-even k state row e q = ap length e ∙ row-length width (linksOf corridor) _ _ _ ∙ sym q
 
   pub state-rows-even : (k j : ℕ) (state other : List ℕ) → state ≡ stateRow width corridor demands plan k → other ≡ stateRow width corridor demands plan j → length state ≡ length other
   unfolding stateRow
   state-rows-even k j state other e q =
-      state-row-even k state other e (ap length q ∙ row-length width (linksOf corridor) _ _)
+      state-row-even k state other e (ap length q ∙ row-length width (linksOf corridor) _ _ _)
 
   -- ---- the record's rows, row by row
 
   abbrev pub runWord : ℕ → ℕ → ℕ
-  runWord k = cell width (traceWord (run (roadOf corridor demands) (planOf (roadOf corridor demands) plan)) k)
+  runWord k = cell width (traceWord (roadOf corridor demands) (run (roadOf corridor demands) (planOf (roadOf corridor demands) plan)) k)
 
   -- row k is lent, and comes back as the row of step k, or of state K
   pub run-row : (k w m at : ℕ) (d l ys : List ℕ) → Rowed k m w runWord d l → k < stepsOf demands → k < m → w ≡ suc (linksOf corridor) * width → at ≡ k * w
@@ -212,42 +215,57 @@ module _ (width : ℕ) (corridor demands plan : List ℕ) where
   run-row k w m at d l ys r h b e q y =
       rowed-words k m w runWord d l at width (suc (linksOf corridor)) _ ys r b q y e
       (λ j c.
-      cell-same width (suc (linksOf corridor)) _ (traceWord (run (roadOf corridor demands) (planOf (roadOf corridor demands) plan)) k)
-      (λ i p hi hp. ap (λ (x : Flows). nodeWord (stateAt (roadOf corridor demands) (planOf (roadOf corridor demands) plan) k i) x p) (sym (run-flows (roadOf corridor demands) (planOf (roadOf corridor demands) plan) k i h)))
+      cell-same width (suc (linksOf corridor)) _ (traceWord (roadOf corridor demands) (run (roadOf corridor demands) (planOf (roadOf corridor demands) plan)) k)
+      (λ i p hi hp.
+      ap (λ (x : Flows). nodeWord (stateAt (roadOf corridor demands) (planOf (roadOf corridor demands) plan) k i) x (exit (x .main) (roadOf corridor demands .split k i)) p)
+      (sym (run-flows (roadOf corridor demands) (planOf (roadOf corridor demands) plan) k i h)))
       j (omega arith))
 
   -- t is K as the code has it
   pub run-last-row : (k t w m at : ℕ) (d l ys : List ℕ) → Rowed k m w runWord d l → k ≡ t → t ≡ stepsOf demands → t < m → w ≡ suc (linksOf corridor) * width → at ≡ t * w
       → ys ≡ stateRow width corridor demands plan (stepsOf demands) → Rowed (t + 1) m w runWord d (putMid at (at + w - at) l ys)
-  unfolding stateRow rowOf roadOf run
+  unfolding stateRow rowOf roadOf run noFlow
   run-last-row k t w m at d l ys r g h b e q y =
       rowed-words t m w runWord d l at width (suc (linksOf corridor)) _ ys (subst (λ (x : ℕ). Rowed x m w runWord d l) g r) b q
       (y ∙ ap (λ (j : ℕ). stateRow width corridor demands plan j) (sym h)) e
       (λ j c.
-      cell-same width (suc (linksOf corridor)) _ (traceWord (run (roadOf corridor demands) (planOf (roadOf corridor demands) plan)) t)
+      cell-same width (suc (linksOf corridor)) _ (traceWord (roadOf corridor demands) (run (roadOf corridor demands) (planOf (roadOf corridor demands) plan)) t)
       (λ i p hi hp.
-      ap (λ (x : Flows). nodeWord (stateAt (roadOf corridor demands) (planOf (roadOf corridor demands) plan) t i) x p)
-      (sym (ap (λ (x : ℕ). run (roadOf corridor demands) (planOf (roadOf corridor demands) plan) .flows x i) h ∙ run-last (roadOf corridor demands) (planOf (roadOf corridor demands) plan) i)))
+      let none : noFlow ≡ run (roadOf corridor demands) (planOf (roadOf corridor demands) plan) .flows t i =
+      sym (ap (λ (x : ℕ). run (roadOf corridor demands) (planOf (roadOf corridor demands) plan) .flows x i) h ∙ run-last (roadOf corridor demands) (planOf (roadOf corridor demands) plan) i) in
+      λ z.
+      nodeWord (stateAt (roadOf corridor demands) (planOf (roadOf corridor demands) plan) t i) (none z)
+      (sym (exit-of-none _ (roadOf corridor demands .split t i) (ap (λ (x : Flows). x .main) (sym none))) z) p)
       j (omega arith))
 
   pub run-words : (k w m : ℕ) (d l : List ℕ) → Rowed k m w runWord d l → m ≤ k → m ≡ suc (stepsOf demands) → w ≡ suc (linksOf corridor) * width → l ≡ runWords width corridor demands plan
   unfolding runWords traceWords roadOf
   run-words k w m d l r h e q =
-      rowed-grid k m w width (suc (linksOf corridor)) (traceWord (run (roadOf corridor demands) (planOf (roadOf corridor demands) plan))) d l r q h
-      ∙ ap (λ (x : ℕ). grid width (suc (linksOf corridor)) x (traceWord (run (roadOf corridor demands) (planOf (roadOf corridor demands) plan)))) e
+      rowed-grid k m w width (suc (linksOf corridor)) (traceWord (roadOf corridor demands) (run (roadOf corridor demands) (planOf (roadOf corridor demands) plan))) d l r q h
+      ∙ ap (λ (x : ℕ). grid width (suc (linksOf corridor)) x (traceWord (roadOf corridor demands) (run (roadOf corridor demands) (planOf (roadOf corridor demands) plan)))) e
 
   pub step-row-fits : (k : ℕ) (row : List ℕ) → row ≡ stepRow width corridor demands plan k → RowFits width row (linksOf corridor)
   unfolding stepRow
-  step-row-fits k row e = ap length e ∙ row-length width (linksOf corridor) _ _
+  step-row-fits k row e = ap length e ∙ row-length width (linksOf corridor) _ _ _
 
 -- ---- the cost after the rows
 
-pub record-is-written : (corridor demands plan g d : List ℕ) (total : ℕ) → RanAll recordWidth corridor demands plan g total
-    → length d ≡ recordLength recordWidth (linksOf corridor) (stepsOf demands)
-    → set (set (g ++ drop (length d - 2) d) (length d - 2) (total % 4294967296)) (length d - 2 + 1) (total / 4294967296) ≡ simulated corridor demands plan
-unfolding simulated recordWords runWords runCost roadOf
-record-is-written corridor demands plan g d total ran h =
-    let fits : length g ≡ length d - 2 = ap length (ran .written) ∙ trace-length _ _ _ ∙ omega arith in
-    two-after g d (length d - 2) (total % 4294967296) (total / 4294967296) fits (omega arith)
-    ∙ ap (λ (x : List ℕ). x ++ lowHigh total) (ran .written)
-    ∙ ap (λ (x : ℕ). runWords recordWidth corridor demands plan ++ lowHigh x) (ran .adds)
+-- width, links and steps are as calls gave them
+module _ (corridor demands d : List ℕ) (links steps width : ℕ) (n : links ≡ linksOf corridor) (k : steps ≡ stepsOf demands) (w : width ≡ recordWidth links steps (length d))
+    (h : length d ≡ recordLength (widthOf corridor demands (length d)) (linksOf corridor) (stepsOf demands)) where
+  told-width : width ≡ widthOf corridor demands (length d)
+  told-width = width-told corridor demands links steps (length d) width n k w
+
+  pub record-room : length d ≡ recordLength width (linksOf corridor) (stepsOf demands)
+  record-room = h ∙ ap (λ (x : ℕ). recordLength x (linksOf corridor) (stepsOf demands)) (sym told-width)
+
+  pub record-is-written : (plan g : List ℕ) (total : ℕ) → RanAll width corridor demands plan g total
+      → set (set (g ++ drop (length d - 2) d) (length d - 2) (total % 4294967296)) (length d - 2 + 1) (total / 4294967296)
+      ≡ simulated (widthOf corridor demands (length d)) corridor demands plan
+  unfolding simulated recordWords runWords runCost roadOf
+  record-is-written plan g total ran =
+      let fits : length g ≡ length d - 2 = ap length (ran .written) ∙ trace-length _ _ _ ∙ omega (arith, record-room) in
+      two-after g d (length d - 2) (total % 4294967296) (total / 4294967296) fits (omega (arith, record-room))
+      ∙ ap (λ (x : List ℕ). x ++ lowHigh total) (ran .written)
+      ∙ ap (λ (x : ℕ). runWords width corridor demands plan ++ lowHigh x) (ran .adds)
+      ∙ ap (λ (x : ℕ). simulated x corridor demands plan) told-width

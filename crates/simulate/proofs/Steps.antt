@@ -10,7 +10,7 @@ use Rattle.tables.proofs.Grid.{rowWords-same}
 use Rattle.tables.proofs.Part.{part-at}
 use Rattle.tables.proofs.Sum.{sum-same}
 use Rattle.road.specs.Corridor.{NodeState, Flows, Road, Plan}
-use Rattle.road.specs.Step.{Junction, receiving, flowsWith, outflow, moved}
+use Rattle.road.specs.Step.{Junction, exit, receiving, flowsWith, outflow, moved}
 use Rattle.road.specs.Run.{supply, junction, inflow, next, planFlows, stateAt, noFlow}
 use Rattle.road.specs.Limits.{Limits, Bounded}
 use Rattle.road.proofs.Runs.{link-tops, run-jam}
@@ -18,17 +18,17 @@ use Rattle.road.proofs.Same.{junction-same, next-same}
 use Rattle.road.proofs.Sizes.{run-state-fits}
 use Rattle.lists.specs.Words.{Width, linksOf, stepsOf, nodeAt, demandsWord, roadOf, planOf, nodeWord}
 use Rattle.lists.specs.Rows.{stateIn, flowsIn, stepRoad}
-use Rattle.simulate.specs.Rows.{rowOf, startRow, rowFlows, flowRow, nextRow, rowCost, StepKept}
+use Rattle.simulate.specs.Rows.{rowOf, startRow, rowFlows, rowExit, flowRow, nextRow, rowCost, StepKept}
 use Rattle.simulate.specs.Simulate.{stateRow, stepRow, ranCost}
 use Rattle.simulate.proofs.Rows.{row-state, row-flows}
 
--- rows with the same states and flows at nodes 0..N are one list
-row-same : (width links : ℕ) (state after : ℕ → NodeState) (flows other : ℕ → Flows) → ((i : ℕ) → i ≤ links → state i ≡ after i)
-    → ((i : ℕ) → i ≤ links → flows i ≡ other i) → rowOf width links state flows ≡ rowOf width links after other
+-- rows with the same states, flows and off-ramp flows at nodes 0..N are one list
+row-same : (width links : ℕ) (state after : ℕ → NodeState) (flows other : ℕ → Flows) (off off′ : ℕ → ℕ) → ((i : ℕ) → i ≤ links → state i ≡ after i)
+    → ((i : ℕ) → i ≤ links → flows i ≡ other i) → ((i : ℕ) → i ≤ links → off i ≡ off′ i) → rowOf width links state flows off ≡ rowOf width links after other off′
 unfolding rowOf
-row-same width links state after flows other s f =
+row-same width links state after flows other off off′ s f x =
     rowWords-same width (suc links) _ _
-    (λ i q h b. ap (λ (x : NodeState). nodeWord x (flows i) q) (s i (omega arith)) ∙ ap (λ (x : Flows). nodeWord (after i) x q) (f i (omega arith)))
+    (λ i q h b z. nodeWord (s i (omega arith) z) (f i (omega arith) z) (x i (omega arith) z) q)
 
 module _ (corridor demands : List ℕ) (k : ℕ) where
   -- row k of the demands, as the code has it
@@ -114,33 +114,35 @@ module _ (width : ℕ) (wide : Width width) (corridor demands words : List ℕ) 
     step-flows downstream d i h =
         ap (λ (x : Junction). flowsWith x (getD rates (i * 2 + 0) 0) (getD rates (i * 2 + 1) 0))
         (step-junction corridor demands k demand (rows .demand-row) downstream d (stateIn width (stateRow width corridor demands words k)) i h
-        ∙ junction-same road k (stateIn width (stateRow width corridor demands words k)) (stateAt road plan k) i (λ j l. row-state width wide (linksOf corridor) (stateAt road plan k) (λ j. noFlow) j l) h)
+        ∙ junction-same road k (stateIn width (stateRow width corridor demands words k)) (stateAt road plan k) i (λ j l. row-state width wide (linksOf corridor) (stateAt road plan k) (λ j. noFlow) (λ j. 0) j l) h)
         ∙ ap (λ (c : ℕ). flowsWith (junction road k (stateAt road plan k) i) c (getD rates (i * 2 + 1) 0)) (rows .rate i h)
         ∙ ap (λ (v : ℕ). flowsWith (junction road k (stateAt road plan k) i) (plan .rate k i) v) (rows .limit i h)
 
     pub flow-row-is : (downstream : ℕ) → downstream ≡ road .downstream k
         → flowRow width corridor (linksOf corridor) demand downstream rates (stateRow width corridor demands words k) ≡ stepRow width corridor demands words k
-    unfolding flowRow stateRow stepRow
+    unfolding flowRow rowExit stateRow stepRow roadOf
     flow-row-is downstream d =
-        row-same width (linksOf corridor) _ _ _ _ (λ i h. row-state width wide (linksOf corridor) (stateAt road plan k) (λ j. noFlow) i h) (step-flows downstream d)
+        row-same width (linksOf corridor) _ _ _ _ _ _ (λ i h. row-state width wide (linksOf corridor) (stateAt road plan k) (λ j. noFlow) (λ j. 0) i h) (step-flows downstream d)
+        (λ i h z. exit (step-flows downstream d i h z .main) (rows .demand-row .split i h z))
 
     pub next-row-is : nextRow width (linksOf corridor) demand (stepRow width corridor demands words k) ≡ stateRow width corridor demands words (suc k)
     unfolding nextRow stateAt roadOf stateRow stepRow
     next-row-is =
-        row-same width (linksOf corridor) _ _ _ _
+        row-same width (linksOf corridor) _ _ _ _ _ _
         (λ i h.
         step-next corridor demands k demand (rows .demand-row) 0 [] (stateIn width (stepRow width corridor demands words k)) (flowsIn width (stepRow width corridor demands words k)) i h
         ∙ next-same road k (stateIn width (stepRow width corridor demands words k)) (stateAt road plan k) (flowsIn width (stepRow width corridor demands words k)) (planFlows road plan k (stateAt road plan k)) i
-        (λ j l. row-state width wide (linksOf corridor) (stateAt road plan k) _ j l)
-        (λ j l. row-flows width wide (linksOf corridor) (stateAt road plan k) _ j l)
+        (λ j l. row-state width wide (linksOf corridor) (stateAt road plan k) _ _ j l)
+        (λ j l. row-flows width wide (linksOf corridor) (stateAt road plan k) _ _ j l)
         h)
+        (λ i h. refl)
         (λ i h. refl)
 
     -- within limits and bounds the row of state k keeps what a step asks
     pub step-kept : Limits road → Bounded road plan → k < stepsOf demands → (i : ℕ) → i ≤ linksOf corridor → StepKept width corridor demand rates (stateRow width corridor demands words k) i
     unfolding roadOf stateRow
     step-kept limits bounded hk i hi =
-        let s : stateIn width (stateRow width corridor demands words k) i ≡ stateAt road plan k i = row-state width wide (linksOf corridor) (stateAt road plan k) (λ j. noFlow) i hi in
+        let s : stateIn width (stateRow width corridor demands words k) i ≡ stateAt road plan k i = row-state width wide (linksOf corridor) (stateAt road plan k) (λ j. noFlow) (λ j. 0) i hi in
         let n : stateIn width (stateRow width corridor demands words k) i .vehicles ≡ stateAt road plan k i .vehicles = ap (λ (x : NodeState). x .vehicles) s in
         let l : stateIn width (stateRow width corridor demands words k) i .queue ≡ stateAt road plan k i .queue = ap (λ (x : NodeState). x .queue) s in
         let fits = run-state-fits road limits plan k i (omega arith) hi in
@@ -158,7 +160,7 @@ pub state-cost-is : (width : ℕ) (wide : Width width) (corridor demands words :
     → rowCost width (linksOf corridor) (stateRow width corridor demands words k) ≡ ranCost corridor demands words k
 unfolding rowCost stateRow ranCost
 state-cost-is width wide corridor demands words k =
-    sum-same (suc (linksOf corridor)) _ _ (λ i h. ap (λ (x : NodeState). x .vehicles + x .queue) (row-state width wide (linksOf corridor) _ _ i (omega arith)))
+    sum-same (suc (linksOf corridor)) _ _ (λ i h. ap (λ (x : NodeState). x .vehicles + x .queue) (row-state width wide (linksOf corridor) _ _ _ i (omega arith)))
 
 -- the corridor's start is the row of state 0
 pub start-row-is : (width : ℕ) (corridor demands words : List ℕ) → startRow width corridor (linksOf corridor) ≡ stateRow width corridor demands words 0

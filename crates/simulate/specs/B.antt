@@ -42,4 +42,4 @@ record-1 = recordWith 80 40 120 200 30 20 370
 
 pub record Case1 : Type 0 where
   pub accepted : simulateAnswer corridor demands plan (length record-1) ≡ Accepted
-  pub simulates : simulated corridor demands plan ≡ record-1
+  pub simulates : simulated 4 corridor demands plan ≡ record-1

@@ -1,42 +1,57 @@
 -- One step on its rows alone: the record's row of a state, the row of the next state, and what each asks of the words that it is given.
 use Prim.Native.Nat.{ℕ, suc, _+_, _*_, _≤_}
+use mathlib.Core.Bool.{cond}
 use mathlib.Core.Path.{_≡_}
 use mathlib.Core.List.{List, []}
+use lib.Dec.{ltb}
 use lib.ListN.{getD, set}
 use Rattle.tables.specs.Grid.{rowWords}
 use Rattle.road.specs.Corridor.{NodeState, Flows}
-use Rattle.road.specs.Step.{flowsWith}
+use Rattle.road.specs.Step.{exit, flowsWith}
 use Rattle.road.specs.Run.{junction, next, noFlow, stateCost}
 use Rattle.lists.specs.Words.{Width, nodeAt, nodeWord}
 use Rattle.lists.specs.Rows.{stateIn, flowsIn, stepRoad}
 use Rattle.lists.specs.Fits.{CorridorFits, RowFits}
 
--- a row of nodes 0..N with these states and flows
-unfoldable pub rowOf : ℕ → ℕ → (ℕ → NodeState) → (ℕ → Flows) → List ℕ
-rowOf width links state flows = rowWords width (suc links) (λ i. nodeWord (state i) (flows i))
+-- a row of nodes 0..N with these states, flows and off-ramp flows; these have a word where the width is 5
+unfoldable pub rowOf : ℕ → ℕ → (ℕ → NodeState) → (ℕ → Flows) → (ℕ → ℕ) → List ℕ
+rowOf width links state flows off = rowWords width (suc links) (λ i. nodeWord (state i) (flows i) (off i))
+
+-- a row of a state before its step: no flow, and nothing leaves
+abbrev pub restRow : ℕ → ℕ → (ℕ → NodeState) → List ℕ
+restRow width links state = rowOf width links state (λ i. noFlow) (λ i. 0)
 
 -- a row with the words of node i stored anew
-unfoldable pub putNode : ℕ → List ℕ → ℕ → NodeState → Flows → List ℕ
-putNode width row i state flows =
-    set (set (set (set row (i * width) (state .vehicles)) (i * width + 1) (state .queue)) (i * width + 2) (flows .main)) (i * width + 3) (flows .ramp)
+unfoldable pub putExit : ℕ → List ℕ → ℕ → ℕ → List ℕ
+putExit width row i off = cond (ltb 4 width) (set row (i * width + 4) off) row
+
+unfoldable pub putNode : ℕ → List ℕ → ℕ → NodeState → Flows → ℕ → List ℕ
+putNode width row i state flows off =
+    putExit width
+    (set (set (set (set row (i * width) (state .vehicles)) (i * width + 1) (state .queue)) (i * width + 2) (flows .main)) (i * width + 3) (flows .ramp))
+    i off
 
 -- the corridor's start
 unfoldable pub startRow : ℕ → List ℕ → ℕ → List ℕ
-startRow width corridor links = rowOf width links (λ i. nodeAt corridor i .start) (λ i. noFlow)
+startRow width corridor links = restRow width links (λ i. nodeAt corridor i .start)
 
 -- the flows of node i from the state of a row, at the rate and limit of a plan's row
 unfoldable pub rowFlows : ℕ → List ℕ → List ℕ → ℕ → List ℕ → List ℕ → ℕ → Flows
 rowFlows width corridor demand downstream plan state i =
     flowsWith (junction (stepRoad corridor demand downstream) 0 (stateIn width state) i) (getD plan (i * 2 + 0) 0) (getD plan (i * 2 + 1) 0)
 
+-- what leaves by its off-ramp
+unfoldable pub rowExit : ℕ → List ℕ → List ℕ → ℕ → List ℕ → List ℕ → ℕ → ℕ
+rowExit width corridor demand downstream plan state i = exit (rowFlows width corridor demand downstream plan state i .main) (getD demand (i * 2 + 1) 0)
+
 -- the record's row: the state, and the step's flows
 unfoldable pub flowRow : ℕ → List ℕ → ℕ → List ℕ → ℕ → List ℕ → List ℕ → List ℕ
 flowRow width corridor links demand downstream plan state =
-    rowOf width links (stateIn width state) (rowFlows width corridor demand downstream plan state)
+    rowOf width links (stateIn width state) (rowFlows width corridor demand downstream plan state) (rowExit width corridor demand downstream plan state)
 
 -- the next state, by rule 6, which asks nothing of the corridor, nor of what may pass beyond it
 unfoldable pub nextRow : ℕ → ℕ → List ℕ → List ℕ → List ℕ
-nextRow width links demand row = rowOf width links (next (stepRoad [] demand 0) 0 (stateIn width row) (flowsIn width row)) (λ i. noFlow)
+nextRow width links demand row = restRow width links (next (stepRoad [] demand 0) 0 (stateIn width row) (flowsIn width row))
 
 -- the vehicles and queues of a row
 unfoldable pub rowCost : ℕ → ℕ → List ℕ → ℕ

@@ -9,18 +9,19 @@ use Rattle.tables.specs.declared.Answer.{Answer}
 use Rattle.tables.specs.Answer.{orElse, sized, left}
 use Rattle.road.specs.Limits.{Limits, Bounded}
 use Rattle.road.specs.Corridor.{NodeState, Flows}
-use Rattle.road.specs.Run.{planFlows, stateAt, noFlow, run, stateCost, cost}
-use Rattle.lists.specs.Words.{linksOf, stepsOf, roadOf, planOf, recordWidth, traceWords, recordWords, demandsLength, planLength, recordLength}
+use Rattle.road.specs.Step.{exit}
+use Rattle.road.specs.Run.{planFlows, stateAt, run, stateCost, cost}
+use Rattle.lists.specs.Words.{linksOf, stepsOf, demandsWord, roadOf, planOf, traceWords, recordWords, demandsLength, planLength, widthOf}
 use Rattle.lists.specs.Fits.{CorridorFits}
-use Rattle.lists.specs.Refusals.{sizes, ranges, planBounds}
-use Rattle.simulate.specs.Rows.{rowOf}
+use Rattle.lists.specs.Refusals.{recordSized, sizes, ranges, planBounds}
+use Rattle.simulate.specs.Rows.{rowOf, restRow}
 
 -- 1. N, K and all lengths are right; `room` is the length of the lent record
 unfoldable pub simulateSizes : List ℕ → List ℕ → List ℕ → ℕ → Bool
 simulateSizes corridor demands plan room =
     sizes corridor demands
     && (eqb (length plan) (planLength (linksOf corridor) (stepsOf demands))
-    && eqb room (recordLength recordWidth (linksOf corridor) (stepsOf demands)))
+    && recordSized (linksOf corridor) (stepsOf demands) room)
 
 -- 1, then 2 to 5, then 6
 unfoldable pub simulateAnswer : List ℕ → List ℕ → List ℕ → ℕ → Answer
@@ -29,13 +30,15 @@ simulateAnswer corridor demands plan room =
     (orElse (ranges (roadOf corridor demands)) (planBounds corridor demands plan))
 
 -- "Its record is what the six rules of a step make of it, the demands and the corridor's start, with the fixed zeros and the cost."
-unfoldable pub simulated : List ℕ → List ℕ → List ℕ → List ℕ
-simulated corridor demands plan =
-    recordWords recordWidth (roadOf corridor demands) (run (roadOf corridor demands) (planOf (roadOf corridor demands) plan))
+-- A node has `width` words in it, 4 in kind 3 and 5 in kind 7
+unfoldable pub simulated : ℕ → List ℕ → List ℕ → List ℕ → List ℕ
+simulated width corridor demands plan =
+    recordWords width (roadOf corridor demands) (run (roadOf corridor demands) (planOf (roadOf corridor demands) plan))
 
--- the lent record at exit
+-- the lent record at exit; its length tells the kind
 unfoldable pub recordLeft : List ℕ → List ℕ → List ℕ → List ℕ → List ℕ
-recordLeft corridor demands plan lent = left (simulateAnswer corridor demands plan (length lent)) (simulated corridor demands plan) lent
+recordLeft corridor demands plan lent =
+    left (simulateAnswer corridor demands plan (length lent)) (simulated (widthOf corridor demands (length lent)) corridor demands plan) lent
 
 -- what refusals 1 to 6 leave: corridor, demands and plan within limits and bounds
 pub record Sound (corridor demands plan : List ℕ) : Type 0 where
@@ -55,13 +58,17 @@ ranState corridor demands plan k = stateAt (roadOf corridor demands) (planOf (ro
 abbrev pub ranFlows : List ℕ → List ℕ → List ℕ → ℕ → ℕ → Flows
 ranFlows corridor demands plan k = planFlows (roadOf corridor demands) (planOf (roadOf corridor demands) plan) k (ranState corridor demands plan k)
 
+-- what leaves by the off-ramps in step k
+abbrev pub ranExit : List ℕ → List ℕ → List ℕ → ℕ → ℕ → ℕ
+ranExit corridor demands plan k i = exit (ranFlows corridor demands plan k i .main) (demandsWord demands (linksOf corridor) k i 1)
+
 -- the row of state k, with no flows yet
 unfoldable pub stateRow : ℕ → List ℕ → List ℕ → List ℕ → ℕ → List ℕ
-stateRow width corridor demands plan k = rowOf width (linksOf corridor) (ranState corridor demands plan k) (λ i. noFlow)
+stateRow width corridor demands plan k = restRow width (linksOf corridor) (ranState corridor demands plan k)
 
 -- the record's row of step k
 unfoldable pub stepRow : ℕ → List ℕ → List ℕ → List ℕ → ℕ → List ℕ
-stepRow width corridor demands plan k = rowOf width (linksOf corridor) (ranState corridor demands plan k) (ranFlows corridor demands plan k)
+stepRow width corridor demands plan k = rowOf width (linksOf corridor) (ranState corridor demands plan k) (ranFlows corridor demands plan k) (ranExit corridor demands plan k)
 
 -- the vehicles and queues of state k
 unfoldable pub ranCost : List ℕ → List ℕ → List ℕ → ℕ → ℕ

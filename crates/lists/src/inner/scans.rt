@@ -5,9 +5,9 @@ ghost use Prim.Native.Nat.{suc, _+_, _*_, _≤_, _<_};
 ghost use lib.ListN.{length, getD};
 ghost use Rattle.tables.specs.Answer.{refusal};
 ghost use Rattle.tables.specs.First.{firstNode, firstPlace};
-ghost use Rattle.lists.specs.Words.{linksOf, stepsOf, nodeAt, roadOf, planLength, Width};
+ghost use Rattle.lists.specs.Words.{linksOf, stepsOf, nodeAt, roadOf, planLength, Width, recordLength};
 ghost use Rattle.faults.specs.Lists.{startFault, demandFault, planFault};
-ghost use Rattle.lists.specs.Refusals.{corridorSized, demandsSized, sizes, ranges, planBounds};
+ghost use Rattle.lists.specs.Refusals.{corridorSized, demandsSized, recordSized, sizes, ranges, planBounds};
 ghost use Rattle.lists.specs.Scans.{lengthsFit, nodeFault, nodeFaultIn, nodeFaultAt, RowFor, corridorRefusal};
 ghost use Rattle.lists.specs.Fits.{CorridorFits, NodeIn};
 ghost use Rattle.lists.specs.declared.inner.scans.NodeTest.the-variants.{Ramp};
@@ -30,7 +30,7 @@ pub enum NodeTest {
 
 // How many words `rows` rows of `width` words have.
 pub fn table_length(rows: usize, width: usize) -> usize
-    requires { ⌜ (rows ≤ 1441) × (width ≤ 260) ⌝ }
+    requires { ⌜ (rows ≤ 1441) × (width ≤ 325) ⌝ }
     ensures { λ r. ⌜ r ≡ rows * width ⌝ }
 {
     rows * width
@@ -38,8 +38,8 @@ pub fn table_length(rows: usize, width: usize) -> usize
 
 // Where row k of `rows` rows of `width` words starts, and that it ends within them.
 pub fn row_at(k: usize, width: usize, rows: usize) -> usize
-    requires { ⌜ (k < rows) × (rows ≤ 1441) × (width ≤ 260) ⌝ }
-    ensures { λ r. ⌜ (r ≡ k * width) × (r + width ≤ rows * width) × (r + width ≤ 374660) ⌝ }
+    requires { ⌜ (k < rows) × (rows ≤ 1441) × (width ≤ 325) ⌝ }
+    ensures { λ r. ⌜ (r ≡ k * width) × (r + width ≤ rows * width) × (r + width ≤ 468325) ⌝ }
 {
     k * width
 }
@@ -105,9 +105,26 @@ pub fn sizes(corridor: &[u32], demands: &[u32]) -> bool
 // How many words a record's row has.
 pub fn state_words(links: usize, width: usize) -> usize
     requires { ⌜ (links ≤ 64) × Width width ⌝ }
-    ensures { λ r. ⌜ (r ≡ suc links * width) × (r ≤ 260) ⌝ }
+    ensures { λ r. ⌜ (r ≡ suc links * width) × (r ≤ 325) ⌝ }
 {
     (links + 1) * width
+}
+
+// How many words a record has.
+pub fn record_length(links: usize, steps: usize, width: usize) -> usize
+    requires { ⌜ (links ≤ 64) × (steps ≤ 1440) × Width width ⌝ }
+    ensures { λ r. ⌜ r ≡ recordLength width links steps ⌝ }
+{
+    table_length(steps + 1, state_words(links, width)) + 2
+}
+
+// Whether `count` words are a record of kind 3 or of kind 7.
+pub fn record_sized(links: usize, steps: usize, count: usize) -> bool
+    requires { ⌜ (links ≤ 64) × (steps ≤ 1440) ⌝ }
+    ensures { λ r. ⌜ r ≡ recordSized links steps count ⌝ }
+{
+    let width = words::record_width(links, steps, count);
+    count == record_length(links, steps, width)
 }
 
 // Refusal 3 at node i.

@@ -5,10 +5,11 @@ ghost use Prim.Native.Nat.{ℕ, _+_, _*_, _≤_, _<_};
 ghost use lib.ListN.{length, getD};
 ghost use Rattle.road.specs.Run.{supply, junction};
 ghost use Rattle.road.specs.Values.{linkOf, rampOf, stateOf, junctionOf, flowsOf};
-ghost use Rattle.lists.specs.Words.{linksOf, stepsOf, corridorLength, byKind, nodeWidth, nodeAt, corridorWord, Width, free, downstreamWord};
-ghost use Rattle.lists.specs.Rows.{stateIn, flowsIn, stepRoad};
+ghost use Rattle.lists.specs.Words.{linksOf, stepsOf, corridorLength, byKind, nodeWidth, nodeAt, corridorWord, Width, free, downstreamWord, recordWidth};
+ghost use Rattle.lists.specs.Rows.{stateIn, flowsIn, exitIn, stepRoad};
 ghost use Rattle.lists.specs.Fits.{CorridorFits, DemandsFit, RowFits, NodeIn, JamKept};
 use crate::inner::scans;
+use road::Exit;
 use road::Flows;
 use road::Junction;
 use road::Link;
@@ -131,8 +132,16 @@ pub fn start_at(corridor: &[u32], links: usize, i: usize) -> NodeState
     }
 }
 
-// How many words a node has in a record: `recordWidth`.
-pub const RECORD_WIDTH: usize = 4;
+// How many words a node has in a record of `count` words: 5 where that is the length of kind 7, and else 4.
+pub fn record_width(links: usize, steps: usize, count: usize) -> usize
+    requires { ⌜ (links ≤ 64) × (steps ≤ 1440) ⌝ }
+    ensures { λ r. ⌜ (r ≡ recordWidth links steps count) × Width r ⌝ }
+{
+    if count == scans::record_length(links, steps, 5) {
+        return 5;
+    }
+    4
+}
 
 // The state of node i in a record's row.
 pub fn state_at(row: &[u32], width: usize, i: usize) -> NodeState
@@ -154,6 +163,17 @@ pub fn flows_at(row: &[u32], width: usize, i: usize) -> Flows
         main: Units(row_word(row, width, i, 2)),
         ramp: Units(row_word(row, width, i, 3)),
     }
+}
+
+// What a record's row says of the exit of node i.
+pub fn exit_at(row: &[u32], width: usize, i: usize) -> Exit
+    requires { ⌜ Width width × NodeIn width (now row) i ⌝ }
+    ensures { λ r. ⌜ r ≡ exitIn width (now (row .entry)) i ⌝ }
+{
+    if width > 4 {
+        return Exit::Said(Units(row_word(row, width, i, 4)));
+    }
+    Exit::Unsaid
 }
 
 // The arrivals of node i in a row of the demands.

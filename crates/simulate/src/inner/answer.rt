@@ -1,7 +1,7 @@
 // What refuses the simulator: 1 to 6 of document 01.
 ghost use mathlib.Core.Path.{_≡_};
 ghost use Prim.Native.Nat.{_≤_};
-ghost use Rattle.lists.specs.Words.{planLength, recordLength, Width};
+ghost use Rattle.lists.specs.Words.{planLength};
 ghost use Rattle.simulate.specs.Simulate.{simulateSizes, simulateAnswer};
 use lists::inner::scans;
 use lists::inner::words;
@@ -17,14 +17,6 @@ pub fn plan_length(links: usize, steps: usize) -> usize
     scans::table_length(steps, (links + 1) * 2)
 }
 
-// How many words a record has.
-pub fn record_length(links: usize, steps: usize, width: usize) -> usize
-    requires { ⌜ (links ≤ 64) × (steps ≤ 1440) × Width width ⌝ }
-    ensures { λ r. ⌜ r ≡ recordLength width links steps ⌝ }
-{
-    scans::table_length(steps + 1, scans::state_words(links, width)) + 2
-}
-
 // Whether N, K and all lengths are right; `room` is the length of the lent record.
 fn fits(corridor: &[u32], demands: &[u32], plan: &[u32], room: usize) -> bool
     ensures { λ r. ⌜ r ≡ simulateSizes (now (corridor .entry)) (now (demands .entry)) (now (plan .entry)) room ⌝ }
@@ -33,7 +25,7 @@ fn fits(corridor: &[u32], demands: &[u32], plan: &[u32], room: usize) -> bool
         let links = words::links_of(corridor);
         let steps = words::steps_of(demands);
         if plan.len() == plan_length(links, steps) {
-            return room == record_length(links, steps, words::RECORD_WIDTH);
+            return scans::record_sized(links, steps, room);
         }
         return false;
     }

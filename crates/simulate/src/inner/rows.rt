@@ -7,22 +7,33 @@ ghost use Rattle.road.specs.Values.{stateOf, flowsOf};
 ghost use Rattle.lists.specs.Words.{Width};
 ghost use Rattle.lists.specs.Rows.{stateIn, flowsIn, stepRoad};
 ghost use Rattle.lists.specs.Fits.{CorridorFits, RowFits, NodeIn};
-ghost use Rattle.simulate.specs.Rows.{putNode, startRow, rowFlows, flowRow, nextRow, rowCost, RowKept, RowsFit, Stepped};
+ghost use Rattle.simulate.specs.Rows.{putExit, putNode, startRow, rowFlows, flowRow, nextRow, rowCost, RowKept, RowsFit, Stepped};
 use lists::inner::words;
 use road::Flows;
 use road::NodeState;
 use road::Units;
 
+// The exit of node i, stored in a row that has a word for it.
+fn put_exit(row: &mut [u32], width: usize, i: usize, exit: Units)
+    requires { ⌜ NodeIn width (now row) i ⌝ }
+    ensures { λ _. ⌜ now (row .exit) ≡ putExit width (now (row .entry)) i (exit .0) ⌝ }
+{
+    if width > 4 {
+        row[i * width + 4] = exit.0;
+    }
+}
+
 // The words of node i, stored in a row.
-fn put_node(row: &mut [u32], width: usize, i: usize, state: NodeState, flows: Flows)
+fn put_node(row: &mut [u32], width: usize, i: usize, state: NodeState, flows: Flows, exit: Units)
     requires { ⌜ Width width × NodeIn width (now row) i ⌝ }
-    ensures { λ _. ⌜ now (row .exit) ≡ putNode width (now (row .entry)) i (stateOf state) (flowsOf flows) ⌝ }
+    ensures { λ _. ⌜ now (row .exit) ≡ putNode width (now (row .entry)) i (stateOf state) (flowsOf flows) (exit .0) ⌝ }
 {
     let at = i * width;
     row[at] = state.vehicles.0;
     row[at + 1] = state.queue.0;
     row[at + 2] = flows.main.0;
     row[at + 3] = flows.ramp.0;
+    put_exit(row, width, i, exit);
 }
 
 // The row of the corridor's start.
@@ -43,6 +54,7 @@ pub fn start_row(corridor: &[u32], links: usize, row: &mut [u32], width: usize)
                 main: Units(0),
                 ramp: Units(0),
             },
+            Units(0),
         );
         i += 1;
     }
@@ -86,7 +98,8 @@ pub fn flow_row(
     let mut i: usize = 0;
     while i < nodes {
         let flows = plan_flows(corridor, links, demand, downstream, plan, state, width, i);
-        put_node(row, width, i, words::state_at(state, width, i), flows);
+        let exit = road::inner::exit(flows.main, words::split_at(demand, i));
+        put_node(row, width, i, words::state_at(state, width, i), flows, exit);
         i += 1;
     }
 }
@@ -140,6 +153,7 @@ pub fn next_row(links: usize, demand: &[u32], row: &[u32], state: &mut [u32], wi
                 main: Units(0),
                 ramp: Units(0),
             },
+            Units(0),
         );
         i += 1;
     }

@@ -2,7 +2,7 @@
 ghost use mathlib.Core.Path.{_≡_};
 ghost use Prim.Native.Nat.{_<_};
 ghost use lib.ListN.{length};
-ghost use Rattle.lists.specs.Words.{linksOf, stepsOf, recordWidth, Width, traceLength, recordLength};
+ghost use Rattle.lists.specs.Words.{linksOf, stepsOf, Width, traceLength, recordLength, widthOf};
 ghost use Rattle.lists.specs.Fits.{RowFits};
 ghost use Rattle.simulate.specs.Simulate.{Sound, stateRow, runCost, Ran, RanAll, simulated};
 use crate::inner::rows;
@@ -128,26 +128,23 @@ fn run_all(corridor: &[u32], demands: &[u32], plan: &[u32], states: &mut [u32], 
 {
     let links = words::links_of(corridor);
     let wide = scans::state_words(links, width);
-    let mut room = [0u32; 260];
+    let mut room = [0u32; 325];
     let state = &mut room[..wide];
     rows::start_row(corridor, links, state, width);
     run_steps(corridor, demands, plan, state, states, width)
 }
 
-// The whole record: the words of all states, then the cost.
+// The whole record, of the kind that its length tells: the words of all states, then the cost.
 pub fn write_record(corridor: &[u32], demands: &[u32], plan: &[u32], output: &mut [u32])
     requires { ⌜ Sound (now corridor) (now demands) (now plan) ⌝ }
-    requires { ⌜ length (now output) ≡ recordLength recordWidth (linksOf (now corridor)) (stepsOf (now demands)) ⌝ }
-    ensures { λ _. ⌜ now (output .exit) ≡ simulated (now (corridor .entry)) (now (demands .entry)) (now (plan .entry)) ⌝ }
+    requires { ⌜ length (now output) ≡ recordLength (widthOf (now corridor) (now demands) (length (now output))) (linksOf (now corridor)) (stepsOf (now demands)) ⌝ }
+    ensures { λ _. ⌜ now (output .exit) ≡ simulated (widthOf (now (corridor .entry)) (now (demands .entry)) (length (now (output .entry)))) (now (corridor .entry)) (now (demands .entry)) (now (plan .entry)) ⌝ }
 {
+    let links = words::links_of(corridor);
+    let steps = words::steps_of(demands);
+    let width = words::record_width(links, steps, output.len());
     let end = output.len() - 2;
-    let total = run_all(
-        corridor,
-        demands,
-        plan,
-        &mut output[..end],
-        words::RECORD_WIDTH,
-    );
+    let total = run_all(corridor, demands, plan, &mut output[..end], width);
     output[end] = (total % 4294967296) as u32;
     output[end + 1] = (total / 4294967296) as u32;
 }

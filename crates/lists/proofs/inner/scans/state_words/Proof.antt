@@ -1,4 +1,4 @@
--- 65 nodes at most, of at most 4 words.
+-- 65 nodes at most, of at most 5 words.
 use Prim.Native.Nat.{ℕ, suc, _*_, _≤_}
 use native.Mathlib.Nat.{mul-le-mul}
 use native.Mathlib.Omega.{arith}
@@ -7,7 +7,7 @@ use Rattle.lists.specs.Words.{Width}
 use Rattle.lists.proofs.inner.scans.state_words.Statement.{statement}
 use Rattle.lists.proofs.inner.scans.state_words.Tie as tie
 
-fits : (links width : ℕ) → links ≤ 64 → Width width → suc links * width ≤ 260
+fits : (links width : ℕ) → links ≤ 64 → Width width → suc links * width ≤ 325
 fits links width h w = let few : suc links ≤ 65 = omega arith in omega (arith, mul-le-mul few (w .most))
 
 pub state-words-spec : {M : Type 1} → statement M

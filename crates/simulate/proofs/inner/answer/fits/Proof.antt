@@ -10,13 +10,12 @@ plan-length-requires c κs =
     let i = n .before in
     few _ _ _ _ _ (i .before .sizes .ensures) (i .if1 .taken) (n .links-of .ensures) (c .steps-of .ensures)
 
-record-length-requires : tie.Need-record-length-requires
-record-length-requires c κs =
+record-sized-requires : tie.Need-record-sized-requires
+record-sized-requires c κs =
     let s = c .before .before in
     let n = s .before in
     let i = n .before in
-    let f = few _ _ _ _ _ (i .before .sizes .ensures) (i .if1 .taken) (n .links-of .ensures) (s .steps-of .ensures) in
-    (f .0, f .1, search all)
+    few _ _ _ _ _ (i .before .sizes .ensures) (i .if1 .taken) (n .links-of .ensures) (s .steps-of .ensures)
 
 returns : tie.Need-returns
 returns c =
@@ -25,7 +24,7 @@ returns c =
     let s = p .before in
     let n = s .before in
     let i = n .before in
-    record-decides _ _ _ _ _ (i .before .sizes .ensures) (i .if1 .taken) _ _ (n .links-of .ensures) (s .steps-of .ensures) _ _ (p .plan-length .ensures) (l .if2 .taken) (c .record-length .ensures)
+    record-decides _ _ _ _ _ (i .before .sizes .ensures) (i .if1 .taken) _ _ (n .links-of .ensures) (s .steps-of .ensures) _ _ (p .plan-length .ensures) (l .if2 .taken) (c .record-sized .ensures)
 
 returns-2 : tie.Need-returns-2
 returns-2 c =
@@ -46,7 +45,7 @@ fits-spec =
     (λ c κs. search all)
     (λ c κs. search all)
     plan-length-requires
-    record-length-requires
+    record-sized-requires
     returns
     returns-2
     returns-3)

@@ -13,7 +13,7 @@ use Rattle.simulate.proofs.inner.rows.next_row.Tie as tie
 
 abbrev Inv-loop : tie.InvT-loop
 Inv-loop links demand row state₀ width nodes i₀ state i =
-    Written width i links (next (stepRoad [] demand 0) 0 (stateIn width row) (flowsIn width row)) (λ j. noFlow) state₀ state
+    Written width i links (next (stepRoad [] demand 0) 0 (stateIn width row) (flowsIn width row)) (λ j. noFlow) (λ j. 0) state₀ state
 
 abbrev μ-loop : tie.MeasureT-loop
 μ-loop links demand row state₀ width nodes i₀ state i = links + 1 - i
@@ -23,7 +23,7 @@ unfolding noFlow
 loop-again c =
     let p = c .before .before in
     let k = p .before .before .before .before in
-    written-more _ _ _ _ _ _ _ _ _ _ (k .before .before .before .before .pre .0 .3) (k .loop .inv) (omega arith) (p .before .moved-at .ensures) refl (p .put-node .ensures)
+    written-more _ _ _ _ _ _ _ _ _ _ _ _ (k .before .before .before .before .pre .0 .3) (k .loop .inv) (omega arith) (p .before .moved-at .ensures) refl refl (p .put-node .ensures)
 
 pub next-row-spec : {M : Type 1} → statement M
 unfolding nextRow

@@ -11,7 +11,7 @@ use Rattle.simulate.proofs.inner.rows.start_row.Statement.{statement}
 use Rattle.simulate.proofs.inner.rows.start_row.Tie as tie
 
 abbrev Inv-loop : tie.InvT-loop
-Inv-loop corridor links row₀ width nodes i₀ row i = Written width i links (λ j. nodeAt corridor j .start) (λ j. noFlow) row₀ row
+Inv-loop corridor links row₀ width nodes i₀ row i = Written width i links (λ j. nodeAt corridor j .start) (λ j. noFlow) (λ j. 0) row₀ row
 
 abbrev μ-loop : tie.MeasureT-loop
 μ-loop corridor links row₀ width nodes i₀ row i = links + 1 - i
@@ -21,7 +21,7 @@ unfolding noFlow
 loop-again c =
     let p = c .before .before in
     let k = p .before .before .before .before in
-    written-more _ _ _ _ _ _ _ _ _ _ (k .before .before .before .pre .1 .0) (k .loop .inv) (omega arith) (p .before .start-at .ensures) refl (p .put-node .ensures)
+    written-more _ _ _ _ _ _ _ _ _ _ _ _ (k .before .before .before .pre .1 .0) (k .loop .inv) (omega arith) (p .before .start-at .ensures) refl refl (p .put-node .ensures)
 
 pub start-row-spec : {M : Type 1} → statement M
 unfolding startRow noFlow

@@ -1,13 +1,13 @@
--- 1,441 rows at most, of at most 260 words.
+-- 1,441 rows at most, of at most 325 words.
 use Prim.Native.Nat.{ℕ, suc, _+_, _*_, _≤_}
 use mathlib.Core.Path.{_≡_, ap}
 use native.Mathlib.Nat.{mul-le-mul}
 use native.Mathlib.Omega.{arith}
 use borrow.Author.Needs.{needs}
-use Rattle.simulate.proofs.inner.answer.record_length.Statement.{statement}
-use Rattle.simulate.proofs.inner.answer.record_length.Tie as tie
+use Rattle.lists.proofs.inner.scans.record_length.Statement.{statement}
+use Rattle.lists.proofs.inner.scans.record_length.Tie as tie
 
-few : (steps w r : ℕ) → steps ≤ 1440 → w ≤ 260 → r ≡ (steps + 1) * w → r ≤ 374660
+few : (steps w r : ℕ) → steps ≤ 1440 → w ≤ 325 → r ≡ (steps + 1) * w → r ≤ 468325
 few steps w r h b e = let a : steps + 1 ≤ 1441 = omega arith in omega (arith, mul-le-mul a b)
 
 is : (steps w n r : ℕ) → w ≡ n → r ≡ (steps + 1) * w → r + 2 ≡ suc steps * n + 2
