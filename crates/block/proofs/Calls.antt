@@ -17,7 +17,7 @@ use Rattle.tables.proofs.Tests.{and-iff}
 use Rattle.faults.specs.Lists.{within}
 use Rattle.lists.proofs.Limits.{sized-iff}
 use Rattle.block.specs.declared.Kind.{Kind}
-use Rattle.block.specs.declared.Kind.the-variants.{Corridor, CorridorDrop, Demands, DemandsDownstream, Record, Plan}
+use Rattle.block.specs.declared.Kind.the-variants.{Corridor, CorridorDrop, Demands, DemandsDownstream, Record, RecordExits, Plan}
 use Rattle.payload.specs.Word.{Words}
 use Rattle.payload.specs.File.{blocksFor, payloadWord, payloadPart, payloadOf, putPayload, fileOf}
 use Rattle.payload.specs.Reading.{payloadAnswer}
@@ -72,15 +72,17 @@ length-low CorridorDrop n k t = omega arith
 length-low Demands n k t = omega arith
 length-low DemandsDownstream n k t = omega arith
 length-low Record n k t = omega arith
+length-low RecordExits n k t = omega arith
 length-low Plan n k t = words-low k (suc n) 2 (t .stepsLow) (omega arith) (omega arith)
 
-pub length-high : (kind : Kind) (n k : ℕ) → Told n k → listLength kind n k ≤ 374662
+pub length-high : (kind : Kind) (n k : ℕ) → Told n k → listLength kind n k ≤ 468327
 unfolding listLength
 length-high Corridor n k t = omega arith
 length-high CorridorDrop n k t = omega arith
 length-high Demands n k t = omega (arith, words-high k (suc n) 2 2 (omega arith) (omega arith) (omega arith))
 length-high DemandsDownstream n k t = omega (arith, words-high k (suc n) 2 2 (omega arith) (omega arith) (omega arith))
 length-high Record n k t = omega (arith, words-high (suc k) (suc n) 4 4 (omega arith) (omega arith) (omega arith))
+length-high RecordExits n k t = omega (arith, words-high (suc k) (suc n) 5 5 (omega arith) (omega arith) (omega arith))
 length-high Plan n k t = omega (arith, words-high k (suc n) 2 2 (omega arith) (omega arith) (omega arith))
 
 -- ---- reading

@@ -21,7 +21,7 @@ use Rattle.payload.specs.File.{blocksFor, payloadIn, payloadWord, payloadOf, fi
 use Rattle.payload.proofs.Words.{word-is}
 use Rattle.payload.proofs.Files.{file-length}
 use Rattle.block.specs.declared.Kind.{Kind}
-use Rattle.block.specs.declared.Kind.the-variants.{Corridor, CorridorDrop, Demands, DemandsDownstream, Record, Plan}
+use Rattle.block.specs.declared.Kind.the-variants.{Corridor, CorridorDrop, Demands, DemandsDownstream, Record, RecordExits, Plan}
 use Rattle.block.specs.Kinds.{Told, kindNumber, listLength, later, kindWord, saysLater, fileKind, listKind}
 use Rattle.block.specs.Calls.{toldFits, readAnswer, wordsRead, writeAnswer, fileWritten}
 use Rattle.block.proofs.Calls.{told-is, length-low, read-kept, write-kept}
@@ -63,7 +63,8 @@ later-number Corridor e = absurd (omega arith)
 later-number CorridorDrop e = refl
 later-number Demands e = absurd (omega arith)
 later-number DemandsDownstream e = refl
-later-number Record e = refl
+later-number Record e = absurd (omega arith)
+later-number RecordExits e = refl
 later-number Plan e = refl
 
 -- two words more for each node, and K, which is not 0
@@ -73,7 +74,8 @@ later-length Corridor n k t e = absurd (omega arith)
 later-length CorridorDrop n k t e = refl
 later-length Demands n k t e = absurd (omega (arith, t .stepsLow))
 later-length DemandsDownstream n k t e = refl
-later-length Record n k t e = refl
+later-length Record n k t e = absurd (omega arith)
+later-length RecordExits n k t e = refl
 later-length Plan n k t e = refl
 
 -- so what tells them apart, x of one and y of the other, chooses the one that it was taken of

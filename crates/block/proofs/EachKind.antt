@@ -11,7 +11,7 @@ use Rattle.tables.specs.declared.Answer.the-variants.{Accepted, Refused}
 use Rattle.tables.specs.Answer.{left}
 use Rattle.tables.proofs.Tabulate.{tabulate-length, tabulate-at}
 use Rattle.block.specs.declared.Kind.{Kind}
-use Rattle.block.specs.declared.Kind.the-variants.{Corridor, CorridorDrop, Demands, DemandsDownstream, Record, Plan}
+use Rattle.block.specs.declared.Kind.the-variants.{Corridor, CorridorDrop, Demands, DemandsDownstream, Record, RecordExits, Plan}
 use Rattle.payload.specs.Word.{Bytes, Words}
 use Rattle.payload.specs.File.{blocksFor, fileOf, payloadWord, payloadOf, OneChange}
 use Rattle.payload.specs.Reading.{payloadAnswer}
@@ -27,6 +27,7 @@ number-fits CorridorDrop = lit< tt
 number-fits Demands = lit< tt
 number-fits DemandsDownstream = lit< tt
 number-fits Record = lit< tt
+number-fits RecordExits = lit< tt
 number-fits Plan = lit< tt
 
 -- the payload of a file of good length opens with the first word read

@@ -1,14 +1,14 @@
 -- The kinds of file: each one's number, its payload's length from N and K, and whether its first word is N, K or neither.
--- A place is named by its oldest kind. That of the corridor takes two, 1 and 10, that of the demands 2 and 5; `fileKind` and `listKind` say which of them a file or a list is.
+-- A place is named by its oldest kind. That of the corridor takes two, 1 and 10, that of the demands 2 and 5, that of the record 3 and 7; `fileKind` and `listKind` say which of them a file or a list is.
 use mathlib.Core.Bool.{Bool, true, cond}
 use mathlib.Core.List.{List}
 use Prim.Native.Nat.{ℕ, _≤_}
 use lib.Dec.{eqb, leb}
 use lib.ListN.{length}
-use Rattle.lists.specs.Words.{corridorLength, demandsLength, downstreamLength, planLength, recordWidth, recordLength}
+use Rattle.lists.specs.Words.{corridorLength, demandsLength, downstreamLength, planLength, recordLength}
 use Rattle.payload.specs.Word.{wordAt}
 use Rattle.block.specs.declared.Kind.{Kind}
-use Rattle.block.specs.declared.Kind.the-variants.{Corridor, CorridorDrop, Demands, DemandsDownstream, Record, Plan}
+use Rattle.block.specs.declared.Kind.the-variants.{Corridor, CorridorDrop, Demands, DemandsDownstream, Record, RecordExits, Plan}
 
 -- N is 1..64 and K is 1..1,440
 pub record Told (n k : ℕ) : Type 0 where
@@ -24,6 +24,7 @@ kindNumber CorridorDrop = 10
 kindNumber Demands = 2
 kindNumber DemandsDownstream = 5
 kindNumber Record = 3
+kindNumber RecordExits = 7
 kindNumber Plan = 4
 
 -- the words of a list, told N and K
@@ -32,7 +33,8 @@ listLength Corridor n k = corridorLength 9 n
 listLength CorridorDrop n k = corridorLength 11 n
 listLength Demands n k = demandsLength n k
 listLength DemandsDownstream n k = downstreamLength n k
-listLength Record n k = recordLength recordWidth n k
+listLength Record n k = recordLength 4 n k
+listLength RecordExits n k = recordLength 5 n k
 listLength Plan n k = planLength n k
 
 -- whether a list's first word is as told: a corridor's is its own N, that of demands their own K
@@ -42,6 +44,7 @@ ownAgrees CorridorDrop n k word = eqb word n
 ownAgrees Demands n k word = eqb word k
 ownAgrees DemandsDownstream n k word = eqb word k
 ownAgrees Record n k word = true
+ownAgrees RecordExits n k word = true
 ownAgrees Plan n k word = true
 
 -- ---- which kind, where a place takes more than one: the first argument is the oldest of the place
@@ -52,7 +55,8 @@ later Corridor = CorridorDrop
 later CorridorDrop = CorridorDrop
 later Demands = DemandsDownstream
 later DemandsDownstream = DemandsDownstream
-later Record = Record
+later Record = RecordExits
+later RecordExits = RecordExits
 later Plan = Plan
 
 -- word 0 of the file's first block; a file that ends before it does has none, and 0 is the number of no kind

@@ -18,6 +18,8 @@ pub enum Kind {
     // Demands with the flow that may leave link N, by step.
     DemandsDownstream,
     Record,
+    // A record with the off-ramp flow at each node's end.
+    RecordExits,
     Plan,
 }
 
@@ -37,7 +39,7 @@ pub fn write_corridor(n: u32, k: u32, words: &[u32], file: &mut [u8]) -> Answer
     calls::write_chosen(Kind::Corridor, n, k, words, file)
 }
 
-// Demands out of a file: chosen in the same way.
+// Demands out of a file: their kind is chosen in the same way.
 pub fn read_demands(n: u32, k: u32, file: &[u8], words: &mut [u32]) -> Answer
     ensures answered { λ r. ⌜ r ≡ readAnswer (fileKind Demands (now (file .entry))) n k (now (file .entry)) (length (now (words .entry))) ⌝ }
     ensures lent { λ _. ⌜ now (words .exit) ≡ wordsRead (fileKind Demands (now (file .entry))) n k (now (file .entry)) (now (words .entry)) ⌝ }
@@ -53,20 +55,20 @@ pub fn write_demands(n: u32, k: u32, words: &[u32], file: &mut [u8]) -> Answer
     calls::write_chosen(Kind::Demands, n, k, words, file)
 }
 
-// A record out of a file.
+// A record out of a file: its kind is chosen in the same way.
 pub fn read_record(n: u32, k: u32, file: &[u8], words: &mut [u32]) -> Answer
-    ensures answered { λ r. ⌜ r ≡ readAnswer Record n k (now (file .entry)) (length (now (words .entry))) ⌝ }
-    ensures lent { λ _. ⌜ now (words .exit) ≡ wordsRead Record n k (now (file .entry)) (now (words .entry)) ⌝ }
+    ensures answered { λ r. ⌜ r ≡ readAnswer (fileKind Record (now (file .entry))) n k (now (file .entry)) (length (now (words .entry))) ⌝ }
+    ensures lent { λ _. ⌜ now (words .exit) ≡ wordsRead (fileKind Record (now (file .entry))) n k (now (file .entry)) (now (words .entry)) ⌝ }
 {
-    calls::read_list(Kind::Record, n, k, file, words)
+    calls::read_chosen(Kind::Record, n, k, file, words)
 }
 
-// A record into a file.
+// A record into a file: its length chooses the kind.
 pub fn write_record(n: u32, k: u32, words: &[u32], file: &mut [u8]) -> Answer
-    ensures answered { λ r. ⌜ r ≡ writeAnswer Record n k (now (words .entry)) (length (now (file .entry))) ⌝ }
-    ensures lent { λ _. ⌜ now (file .exit) ≡ fileWritten Record n k (now (words .entry)) (now (file .entry)) ⌝ }
+    ensures answered { λ r. ⌜ r ≡ writeAnswer (listKind Record n k (length (now (words .entry)))) n k (now (words .entry)) (length (now (file .entry))) ⌝ }
+    ensures lent { λ _. ⌜ now (file .exit) ≡ fileWritten (listKind Record n k (length (now (words .entry)))) n k (now (words .entry)) (now (file .entry)) ⌝ }
 {
-    calls::write_list(Kind::Record, n, k, words, file)
+    calls::write_chosen(Kind::Record, n, k, words, file)
 }
 
 // A plan out of a file.

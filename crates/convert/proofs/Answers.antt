@@ -15,15 +15,14 @@ use Rattle.road.specs.Corridor.{NodeState}
 use Rattle.road.specs.Run.{cost}
 use Rattle.faults.specs.Records.{fixedFault, totalFault}
 use Rattle.faults.proofs.Tests.{both-hold, eq-holds, told-false}
-use Rattle.lists.specs.Words.{linksOf, stepsOf, roadOf, recordWidth, Width, traceOf, traceLength, planLength, recordLength}
+use Rattle.lists.specs.Words.{linksOf, stepsOf, roadOf, Width, traceOf, exitsOf, traceLength, planLength, recordLength, recordWidth, widthOf}
 use Rattle.lists.specs.Fits.{CorridorFits}
-use Rattle.lists.specs.Refusals.{sizes, ranges}
+use Rattle.lists.specs.Refusals.{recordSized, sizes, ranges}
 use Rattle.lists.proofs.Limits.{Sizes, sizes-iff, sized-iff, sized-refuses, ranges-iff}
-use Rattle.lists.proofs.Sizes.{corridor-fits, demands-fit}
-use Rattle.lists.proofs.Words.{record-wide}
+use Rattle.lists.proofs.Sizes.{corridor-fits, demands-fit, record-wide, record-sized-iff, width-told}
 use Rattle.simulate.specs.Rows.{rowCost}
 use Rattle.convert.specs.Refusals.{costFault, judged}
-use Rattle.convert.specs.Convert.{checkAnswer, convertAnswer}
+use Rattle.convert.specs.Convert.{recordRefusal, checkAnswer, convertAnswer}
 use Rattle.convert.specs.Rows.{bareRoad, fixedRefusal, stepsRefusal, stateCostAt, Ready}
 use Rattle.convert.proofs.Rows.{TraceRow, trace-row}
 
@@ -40,7 +39,7 @@ pub row-cost-told : (width links steps k at w v : ℕ) (words : List ℕ) → Wi
 unfolding rowCost bareRoad
 row-cost-told width links steps k at w v words wide e h q =
     let p : at ≡ suc k * w = omega arith in
-    let row : TraceRow width links (traceOf width (bareRoad [] links steps) words) (suc k) (take (at + w - at) (drop at words)) =
+    let row : TraceRow width links (traceOf width (bareRoad [] links steps) words) (exitsOf width (bareRoad [] links steps) words) (suc k) (take (at + w - at) (drop at words)) =
     trace-row width (bareRoad [] links steps) words (suc k) at w wide p q in
     e ∙ sum-same (suc links) _ _ (λ i l. ap (λ (s : NodeState). s .vehicles + s .queue) (row .state i (omega arith)))
 
@@ -99,8 +98,8 @@ told-accepts a x e h = sym e ∙ h
 
 -- ---- what 1 to 5 leave: a is their answer as the code has it
 
-pub ready : (corridor demands words : List ℕ) (a : Answer) → sizes corridor demands ≡ true → length words ≡ recordLength recordWidth (linksOf corridor) (stepsOf demands)
-    → a ≡ ranges (roadOf corridor demands) → a ≡ Accepted → Ready recordWidth corridor demands words (linksOf corridor) (stepsOf demands)
+pub ready : (corridor demands words : List ℕ) (a : Answer) → sizes corridor demands ≡ true → length words ≡ recordLength (widthOf corridor demands (length words)) (linksOf corridor) (stepsOf demands)
+    → a ≡ ranges (roadOf corridor demands) → a ≡ Accepted → Ready (widthOf corridor demands (length words)) corridor demands words (linksOf corridor) (stepsOf demands)
 unfolding roadOf
 ready corridor demands words a s l e h =
     let z : Sizes corridor demands = sizes-iff corridor demands .0 s in
@@ -108,14 +107,26 @@ ready corridor demands words a s l e h =
       corridorFits = corridor-fits corridor demands (linksOf corridor) s refl;
       demandsFit = demands-fit corridor demands (linksOf corridor) (stepsOf demands) s refl refl;
       recordFits = l;
-      wide = record-wide;
+      wide = record-wide (linksOf corridor) (stepsOf demands) (length words);
       limits = ranges-iff (roadOf corridor demands) (z .links) (z .steps) .0 (sym e ∙ h);
     }
+
+-- the same with the width as the code has it, and its links and steps
+pub ready-by : (corridor demands words : List ℕ) (links steps width : ℕ) → links ≡ linksOf corridor → steps ≡ stepsOf demands → width ≡ recordWidth links steps (length words)
+    → Ready (widthOf corridor demands (length words)) corridor demands words (linksOf corridor) (stepsOf demands) → Ready width corridor demands words (linksOf corridor) (stepsOf demands)
+ready-by corridor demands words links steps width n k w r =
+    subst (λ (x : ℕ). Ready x corridor demands words (linksOf corridor) (stepsOf demands)) (sym (width-told corridor demands links steps (length words) width n k w)) r
+
+-- what they answer with it
+pub judged-by : (corridor demands words : List ℕ) (links steps width : ℕ) → links ≡ linksOf corridor → steps ≡ stepsOf demands → width ≡ recordWidth links steps (length words)
+    → judged width (roadOf corridor demands) words ≡ judged (widthOf corridor demands (length words)) (roadOf corridor demands) words
+judged-by corridor demands words links steps width n k w =
+    ap (λ (x : ℕ). judged x (roadOf corridor demands) words) (width-told corridor demands links steps (length words) width n k w)
 
 -- ---- the tests of the lengths
 
 abbrev pub recordTest : List ℕ → List ℕ → ℕ → Bool
-recordTest corridor demands count = sizes corridor demands && eqb count (recordLength recordWidth (linksOf corridor) (stepsOf demands))
+recordTest corridor demands count = sizes corridor demands && recordSized (linksOf corridor) (stepsOf demands) count
 
 -- N and K in range, and the lent plan of the right length
 abbrev pub roomTest : List ℕ → List ℕ → ℕ → Bool
@@ -126,15 +137,17 @@ pub plan-count : (corridor demands : List ℕ) (links steps count x : ℕ) → l
     → eqb count x ≡ eqb count (planLength (linksOf corridor) (stepsOf demands))
 plan-count corridor demands links steps count x n k e = ap (eqb count) (e ∙ ap₂ planLength n k)
 
-pub record-count : (corridor demands : List ℕ) (links steps count x : ℕ) → sizes corridor demands ≡ true → links ≡ linksOf corridor → steps ≡ stepsOf demands
-    → x ≡ recordLength recordWidth links steps → eqb count x ≡ recordTest corridor demands count
+-- x is what the test of a record's length answered
+pub record-count : (corridor demands : List ℕ) (links steps count : ℕ) (x : Bool) → sizes corridor demands ≡ true → links ≡ linksOf corridor → steps ≡ stepsOf demands
+    → x ≡ recordSized links steps count → x ≡ recordTest corridor demands count
 record-count corridor demands links steps count x s n k e =
-    ap (eqb count) (e ∙ ap₂ (recordLength recordWidth) n k)
-    ∙ ap (λ (t : Bool). t && eqb count (recordLength recordWidth (linksOf corridor) (stepsOf demands))) (sym s)
+    e
+    ∙ ap₂ (λ (l m : ℕ). recordSized l m count) n k
+    ∙ ap (λ (t : Bool). t && recordSized (linksOf corridor) (stepsOf demands) count) (sym s)
 
 pub record-unsized : (corridor demands : List ℕ) (count : ℕ) (t : Bool) → t ≡ sizes corridor demands → not t ≡ true → false ≡ recordTest corridor demands count
 record-unsized corridor demands count t e h =
-    ap (λ (x : Bool). x && eqb count (recordLength recordWidth (linksOf corridor) (stepsOf demands))) (sym (told-false t _ e h))
+    ap (λ (x : Bool). x && recordSized (linksOf corridor) (stepsOf demands) count) (sym (told-false t _ e h))
 
 -- ---- the checker: f and a are what the test of the lengths answered, as a test and as an answer
 
@@ -143,12 +156,12 @@ module _ (corridor demands words : List ℕ) (f : Bool) (s : f ≡ recordTest co
   unfolding checkAnswer
   check-sized r = or-else-stop a _ _ (e ∙ ap sized s) r
 
-  pub check-asks : a ≡ Accepted → (sizes corridor demands ≡ true) × (length words ≡ recordLength recordWidth (linksOf corridor) (stepsOf demands))
+  pub check-asks : a ≡ Accepted → (sizes corridor demands ≡ true) × (length words ≡ recordLength (widthOf corridor demands (length words)) (linksOf corridor) (stepsOf demands))
   check-asks g =
-      both-hold _ _ (λ x. x, λ x. x) (eq-holds (length words) (recordLength recordWidth (linksOf corridor) (stepsOf demands))) .0
+      both-hold _ _ (λ x. x, λ x. x) (record-sized-iff (linksOf corridor) (stepsOf demands) (length words)) .0
       (sym s ∙ sized-iff f .0 (sym e ∙ g))
 
-  pub check-rest : (b : Answer) → a ≡ Accepted → b ≡ orElse (ranges (roadOf corridor demands)) (judged recordWidth (roadOf corridor demands) words)
+  pub check-rest : (b : Answer) → a ≡ Accepted → b ≡ recordRefusal corridor demands words
       → b ≡ checkAnswer corridor demands words
   unfolding checkAnswer
   check-rest b g q = or-else-next a b _ _ (e ∙ ap sized s) g q
@@ -174,28 +187,28 @@ module _ (corridor demands words : List ℕ) (room : ℕ) (f : Bool) (s : f ≡ 
   unfolding convertAnswer
   convert-sized r =
       let no : f ≡ false = sized-refuses f (subst Refuses e r) in
-      let q = ends-fail (sizes corridor demands) (eqb (length words) (recordLength recordWidth (linksOf corridor) (stepsOf demands)))
+      let q = ends-fail (sizes corridor demands) (recordSized (linksOf corridor) (stepsOf demands) (length words))
       (eqb room (planLength (linksOf corridor) (stepsOf demands))) (sym s ∙ no) in
       or-else-stop a _ _ (e ∙ ap sized (no ∙ sym q)) r
 
   checks-same : a ≡ Accepted → checkAnswer corridor demands words ≡ convertAnswer corridor demands words room
   unfolding checkAnswer convertAnswer
   checks-same g =
-      let q = ends-hold (sizes corridor demands) (eqb (length words) (recordLength recordWidth (linksOf corridor) (stepsOf demands)))
+      let q = ends-hold (sizes corridor demands) (recordSized (linksOf corridor) (stepsOf demands) (length words))
       (eqb room (planLength (linksOf corridor) (stepsOf demands))) (told-room g) in
-      ap (λ (x : Bool). orElse (sized x) (orElse (ranges (roadOf corridor demands)) (judged recordWidth (roadOf corridor demands) words))) (sym q)
+      ap (λ (x : Bool). orElse (sized x) (recordRefusal corridor demands words)) (sym q)
 
   pub convert-checks : (b : Answer) → a ≡ Accepted → b ≡ checkAnswer corridor demands words → b ≡ convertAnswer corridor demands words room
   convert-checks b g q = q ∙ checks-same g
 
   -- what an accepted record and a plan of the right length leave for the writing of the plan
   pub plan-asks : (b : Answer) → a ≡ Accepted → b ≡ checkAnswer corridor demands words → b ≡ Accepted
-      → Ready recordWidth corridor demands words (linksOf corridor) (stepsOf demands)
-      × ((judged recordWidth (roadOf corridor demands) words ≡ Accepted) × (room ≡ planLength (linksOf corridor) (stepsOf demands)))
+      → Ready (widthOf corridor demands (length words)) corridor demands words (linksOf corridor) (stepsOf demands)
+      × ((judged (widthOf corridor demands (length words)) (roadOf corridor demands) words ≡ Accepted) × (room ≡ planLength (linksOf corridor) (stepsOf demands)))
   unfolding checkAnswer
   plan-asks b g q z =
       let both = orElse-accepts (sized (recordTest corridor demands (length words))) _ .0 (sym q ∙ z) in
       let l = check-asks corridor demands words (recordTest corridor demands (length words)) refl _ refl (both .0) in
-      let r = orElse-accepts (ranges (roadOf corridor demands)) (judged recordWidth (roadOf corridor demands) words) .0 (both .1) in
+      let r = orElse-accepts (ranges (roadOf corridor demands)) (judged (widthOf corridor demands (length words)) (roadOf corridor demands) words) .0 (both .1) in
       let last = both-hold (sizes corridor demands) _ (λ x. x, λ x. x) (eq-holds room (planLength (linksOf corridor) (stepsOf demands))) .0 (told-room g) in
       (ready corridor demands words (ranges (roadOf corridor demands)) (l .0) (l .1) refl (r .0), (r .1, last .1))

@@ -3,7 +3,6 @@ use Prim.Native.Nat.{ℕ}
 use mathlib.Core.Bool.{Bool, true, false, _&&_}
 use mathlib.Core.List.{List}
 use mathlib.Core.Path.{_≡_, refl, sym, ap, subst, _∙_}
-use borrow.Author.Tests.{eq-eqb}
 use lib.Dec.{eqb}
 use lib.ListN.{length}
 use Rattle.tables.specs.declared.Answer.{Answer}
@@ -11,18 +10,30 @@ use Rattle.tables.specs.declared.Answer.the-variants.{Accepted}
 use Rattle.tables.specs.Answer.{left, sized}
 use Rattle.tables.proofs.Answers.{Refuses, orElse-accepts, orElse-refuses, or-else-stop}
 use Rattle.tables.proofs.Tests.{and-iff}
-use Rattle.lists.specs.Words.{linksOf, stepsOf, roadOf, recordWidth, planLength, recordLength}
-use Rattle.lists.specs.Refusals.{sizes, ranges, planBounds}
+use Rattle.lists.specs.Words.{linksOf, stepsOf, roadOf, Width, planLength, recordLength, widthOf}
+use Rattle.lists.specs.Refusals.{recordSized, sizes, ranges, planBounds}
 use Rattle.lists.proofs.Limits.{sized-iff, sized-refuses}
+use Rattle.lists.proofs.Sizes.{record-wide, record-sized-iff, width-is}
 use Rattle.lists.proofs.Words.{record-length}
 use Rattle.simulate.specs.Simulate.{simulateSizes, simulateAnswer, simulated, recordLeft}
 use Rattle.simulate.proofs.Answers.{accepted-sizes}
 use Rattle.convert.specs.Convert.{converted, normalForm, convertAnswer, normalRefusal, normalAnswer, planLeft, workLeft, normalLeft}
 use Rattle.convert.proofs.Answers.{roomTest}
 
-simulated-fits : (corridor demands plan : List ℕ) → length (simulated corridor demands plan) ≡ recordLength recordWidth (linksOf corridor) (stepsOf demands)
+pub simulated-fits : (width : ℕ) (corridor demands plan : List ℕ) → length (simulated width corridor demands plan) ≡ recordLength width (linksOf corridor) (stepsOf demands)
 unfolding simulated roadOf
-simulated-fits corridor demands plan = record-length _ _ _
+simulated-fits width corridor demands plan = record-length _ _ _
+
+-- the simulator's record is of the kind that it is written in
+pub simulated-width : (width : ℕ) (corridor demands plan : List ℕ) → Width width → widthOf corridor demands (length (simulated width corridor demands plan)) ≡ width
+simulated-width width corridor demands plan wide =
+    ap (widthOf corridor demands) (simulated-fits width corridor demands plan) ∙ width-is width (linksOf corridor) (stepsOf demands) wide
+
+pub simulated-sized : (width : ℕ) (corridor demands plan : List ℕ) → Width width → recordSized (linksOf corridor) (stepsOf demands) (length (simulated width corridor demands plan)) ≡ true
+simulated-sized width corridor demands plan wide =
+    record-sized-iff (linksOf corridor) (stepsOf demands) _ .1
+    (simulated-fits width corridor demands plan
+    ∙ ap (λ (x : ℕ). recordLength x (linksOf corridor) (stepsOf demands)) (sym (simulated-width width corridor demands plan wide)))
 
 -- a test and then another, as the code has them
 pub first-fails : (t a b : Bool) → t ≡ a → t ≡ false → false ≡ (a && b)
@@ -47,26 +58,32 @@ last-holds true true true r e = e
 
 -- past the simulator the work record is the plan's
 pub work-is : (corridor demands plan : List ℕ) (work : ℕ) (a : Answer) (lent after : List ℕ) → a ≡ simulateAnswer corridor demands plan work → a ≡ Accepted
-    → work ≡ length lent → after ≡ recordLeft corridor demands plan lent → after ≡ simulated corridor demands plan
+    → work ≡ length lent → after ≡ recordLeft corridor demands plan lent → after ≡ simulated (widthOf corridor demands work) corridor demands plan
 unfolding recordLeft
 work-is corridor demands plan work a lent after e h w q =
     q
-    ∙ ap (λ (x : ℕ). left (simulateAnswer corridor demands plan x) (simulated corridor demands plan) lent) (sym w)
-    ∙ ap (λ (x : Answer). left x (simulated corridor demands plan) lent) (sym e ∙ h)
+    ∙ ap (λ (x : ℕ). left (simulateAnswer corridor demands plan x) (simulated (widthOf corridor demands x) corridor demands plan) lent) (sym w)
+    ∙ ap (λ (x : Answer). left x (simulated (widthOf corridor demands work) corridor demands plan) lent) (sym e ∙ h)
 
 module _ (corridor demands plan : List ℕ) (work room : ℕ) where
+  abbrev width : ℕ
+  width = widthOf corridor demands work
+
+  wide : Width width
+  wide = record-wide (linksOf corridor) (stepsOf demands) work
+
   pub normal-unsized : (t : Bool) (a : Answer) → t ≡ roomTest corridor demands room → a ≡ sized t → Refuses a → a ≡ normalRefusal corridor demands plan work room
   unfolding normalRefusal
   normal-unsized t a e g r =
       let h : t ≡ false = sized-refuses t (subst Refuses g r) in
-      let q = last-fails (sizes corridor demands) (eqb (length plan) (planLength (linksOf corridor) (stepsOf demands))) (eqb work (recordLength recordWidth (linksOf corridor) (stepsOf demands)))
+      let q = last-fails (sizes corridor demands) (eqb (length plan) (planLength (linksOf corridor) (stepsOf demands))) (recordSized (linksOf corridor) (stepsOf demands) work)
       (eqb room (planLength (linksOf corridor) (stepsOf demands))) (sym e ∙ h) in
       or-else-stop a _ _ (g ∙ ap sized (h ∙ sym q)) r
 
   normal-sized : roomTest corridor demands room ≡ true → simulateAnswer corridor demands plan work ≡ normalRefusal corridor demands plan work room
   unfolding normalRefusal simulateAnswer simulateSizes
   normal-sized h =
-      let q = last-holds (sizes corridor demands) (eqb (length plan) (planLength (linksOf corridor) (stepsOf demands))) (eqb work (recordLength recordWidth (linksOf corridor) (stepsOf demands)))
+      let q = last-holds (sizes corridor demands) (eqb (length plan) (planLength (linksOf corridor) (stepsOf demands))) (recordSized (linksOf corridor) (stepsOf demands) work)
       (eqb room (planLength (linksOf corridor) (stepsOf demands))) h in
       rw q
 
@@ -76,8 +93,8 @@ module _ (corridor demands plan : List ℕ) (work room : ℕ) where
 
   -- past the simulator the converter's answer is the normal form's
   normal-goes-on : roomTest corridor demands room ≡ true → simulateAnswer corridor demands plan work ≡ Accepted
-      → convertAnswer corridor demands (simulated corridor demands plan) room ≡ normalAnswer corridor demands plan work room
-  unfolding normalAnswer convertAnswer simulateAnswer simulated
+      → convertAnswer corridor demands (simulated (widthOf corridor demands work) corridor demands plan) room ≡ normalAnswer corridor demands plan work room
+  unfolding normalAnswer convertAnswer simulateAnswer
   normal-goes-on h a =
       let l = accepted-sizes corridor demands plan work a in
       let road-right : ranges (roadOf corridor demands) ≡ Accepted =
@@ -85,9 +102,9 @@ module _ (corridor demands plan : List ℕ) (work room : ℕ) where
       (orElse-accepts (sized (simulateSizes corridor demands plan work)) _ .0 a .1) .0 in
       let refusal-none : normalRefusal corridor demands plan work room ≡ Accepted = sym (normal-sized h) ∙ a in
       let room-right : eqb room (planLength (linksOf corridor) (stepsOf demands)) ≡ true = and-iff (sizes corridor demands) (eqb room (planLength (linksOf corridor) (stepsOf demands))) .0 h .1 in
-      let record-right : eqb (length (simulated corridor demands plan)) (recordLength recordWidth (linksOf corridor) (stepsOf demands)) ≡ true =
-      eq-eqb (length (simulated corridor demands plan)) (recordLength recordWidth (linksOf corridor) (stepsOf demands)) (simulated-fits corridor demands plan) in
-      simp (refusal-none, road-right, l .listed, room-right, record-right)
+      let record-right : recordSized (linksOf corridor) (stepsOf demands) (length (simulated width corridor demands plan)) ≡ true = simulated-sized width corridor demands plan wide in
+      let kind-right : widthOf corridor demands (length (simulated width corridor demands plan)) ≡ width = simulated-width width corridor demands plan wide in
+      simp (refusal-none, road-right, l .listed, room-right, record-right, kind-right)
 
   -- ---- the answer and the lists at exit: t and a are what the test of the lengths answered, b what the simulator did
 
@@ -104,11 +121,11 @@ module _ (corridor demands plan : List ℕ) (work room : ℕ) where
     unfolding recordLeft workLeft
     work-left lent after w q =
         q
-        ∙ ap (λ (x : ℕ). left (simulateAnswer corridor demands plan x) (simulated corridor demands plan) lent) (sym w)
-        ∙ ap (λ (x : Answer). left x (simulated corridor demands plan) lent) (normal-sized told-room)
-        ∙ ap (λ (x : ℕ). left (normalRefusal corridor demands plan x room) (simulated corridor demands plan) lent) w
+        ∙ ap (λ (x : ℕ). left (simulateAnswer corridor demands plan x) (simulated (widthOf corridor demands x) corridor demands plan) lent) (sym w)
+        ∙ ap (λ (x : Answer). left x (simulated width corridor demands plan) lent) (normal-sized told-room)
+        ∙ ap (λ (x : ℕ). left (normalRefusal corridor demands plan x room) (simulated (widthOf corridor demands x) corridor demands plan) lent) w
 
-    module _ (accepted : simulateAnswer corridor demands plan work ≡ Accepted) (words : List ℕ) (w : words ≡ simulated corridor demands plan) where
+    module _ (accepted : simulateAnswer corridor demands plan work ≡ Accepted) (words : List ℕ) (w : words ≡ simulated (widthOf corridor demands work) corridor demands plan) where
       pub converter-answers : (b : Answer) → b ≡ convertAnswer corridor demands words room → b ≡ normalAnswer corridor demands plan work room
       converter-answers b q = q ∙ ap (λ (x : List ℕ). convertAnswer corridor demands x room) w ∙ normal-goes-on told-room accepted
 
@@ -118,5 +135,5 @@ module _ (corridor demands plan : List ℕ) (work room : ℕ) where
           q
           ∙ ap (λ (x : ℕ). left (convertAnswer corridor demands words x) (converted corridor demands words) lent) (sym l)
           ∙ ap (λ (x : List ℕ). left (convertAnswer corridor demands x room) (converted corridor demands x) lent) w
-          ∙ ap (λ (x : Answer). left x (converted corridor demands (simulated corridor demands plan)) lent) (normal-goes-on told-room accepted)
-          ∙ ap (λ (x : ℕ). left (normalAnswer corridor demands plan work x) (normalForm corridor demands plan) lent) l
+          ∙ ap (λ (x : Answer). left x (converted corridor demands (simulated width corridor demands plan)) lent) (normal-goes-on told-room accepted)
+          ∙ ap (λ (x : ℕ). left (normalAnswer corridor demands plan work x) (normalForm width corridor demands plan) lent) l

@@ -8,6 +8,7 @@ use Rattle.tables.specs.declared.Answer.{Answer}
 use Rattle.tables.specs.Answer.{orElse, refusal}
 use Rattle.tables.specs.First.{firstPlace}
 use Rattle.tables.proofs.First.{firstPlace-same}
+use Rattle.road.specs.declared.Exit.{Exit}
 use Rattle.road.specs.Corridor.{Node, NodeState, Road, Trace, nodes}
 use Rattle.road.specs.Step.{Junction}
 use Rattle.road.specs.Run.{cost}
@@ -16,7 +17,7 @@ use Rattle.road.proofs.Same.{SameSetting}
 use Rattle.settings.specs.declared.Setting.{Setting}
 use Rattle.settings.specs.Setting.{settingFor, rateIn, limitIn}
 use Rattle.faults.specs.Records.{fixedFault, stepFault}
-use Rattle.lists.specs.Words.{planWords, traceOf}
+use Rattle.lists.specs.Words.{planWords, traceOf, exitsOf}
 use Rattle.lists.proofs.Words.{plan-same}
 use Rattle.convert.specs.Refusals.{costFault, fixedAt, stepAt, judged}
 use Rattle.convert.specs.Convert.{settingAt, planFor}
@@ -28,16 +29,19 @@ module _ (road other : Road) (e : SameRoads road other) (width : ℕ) (words : L
   abbrev trace : Trace
   trace = traceOf width road words
 
-  like-fixed : firstPlace (suc (road .steps)) (nodes road) (fixedAt road trace) ≡ firstPlace (suc (road .steps)) (nodes road) (fixedAt like trace)
+  abbrev said : ℕ → ℕ → Exit
+  said = exitsOf width road words
+
+  like-fixed : firstPlace (suc (road .steps)) (nodes road) (fixedAt road trace said) ≡ firstPlace (suc (road .steps)) (nodes road) (fixedAt like trace said)
   unfolding fixedFault
   like-fixed = firstPlace-same (suc (road .steps)) (nodes road) _ _
-      (λ k i hk hi. ap (λ (n : Node). fixedFault (record { links = road .links; steps = road .steps; node = λ j. n; arrivals = other .arrivals; split = other .split; downstream = other .downstream }) k i (trace .state k i) (trace .flows k i)) (e .node i (omega arith)))
+      (λ k i hk hi. ap (λ (n : Node). fixedFault (record { links = road .links; steps = road .steps; node = λ j. n; arrivals = other .arrivals; split = other .split; downstream = other .downstream }) k i (trace .state k i) (trace .flows k i) (said k i)) (e .node i (omega arith)))
 
-  like-steps : firstPlace (road .steps) (nodes road) (stepAt road trace) ≡ firstPlace (road .steps) (nodes road) (stepAt like trace)
+  like-steps : firstPlace (road .steps) (nodes road) (stepAt road trace said) ≡ firstPlace (road .steps) (nodes road) (stepAt like trace said)
   like-steps =
       firstPlace-same (road .steps) (nodes road) _ _
       (λ k i hk hi.
-      ap₂ (λ (j : Junction) (s : NodeState). stepFault j (trace .flows k i) s (trace .state (suc k) i))
+      ap₂ (λ (j : Junction) (s : NodeState). stepFault j (trace .flows k i) (said k i) s (trace .state (suc k) i))
       (roads-junction road other e k (trace .state k) i hk (omega arith))
       (roads-next road other e k (trace .state k) (trace .flows k) i hk (omega arith)))
 

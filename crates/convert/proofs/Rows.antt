@@ -1,9 +1,12 @@
 -- Rows as the code lends them: each says what the whole record or the whole demands say of its step, and keeps what the checks before it leave.
 use Prim.Native.Nat.{ℕ, suc, _+_, _-_, _*_, _≤_, _<_}
+use mathlib.Core.Bool.{Bool, true, false, cond}
 use mathlib.Core.List.{List}
 use mathlib.Core.Path.{_≡_, refl, sym, ap, ap₂, subst, _∙_}
 use native.Mathlib.Numerals.{add-one}
 use native.Mathlib.Omega.{arith}
+use borrow.Author.Tests.{ltb-true}
+use lib.Dec.{ltb}
 use lib.ListN.{length, getD, take, drop}
 use Rattle.tables.specs.declared.Answer.{Answer}
 use Rattle.tables.specs.declared.Answer.the-variants.{Accepted}
@@ -13,6 +16,8 @@ use Rattle.tables.specs.Grid.{place}
 use Rattle.tables.proofs.First.{first-same}
 use Rattle.tables.proofs.Numbers.{row-fits}
 use Rattle.tables.proofs.Part.{part-length, part-at}
+use Rattle.road.specs.declared.Exit.{Exit}
+use Rattle.road.specs.declared.Exit.the-variants.{Unsaid, Said}
 use Rattle.road.specs.Corridor.{NodeState, Road, Flows, Trace, nodes}
 use Rattle.road.specs.Run.{junction, next}
 use Rattle.road.specs.Limits.{Limits}
@@ -20,8 +25,8 @@ use Rattle.road.proofs.Rules.{flows-eq, state-eq, sending-le}
 use Rattle.road.proofs.Runs.{link-tops}
 use Rattle.road.proofs.Same.{junction-same, next-same}
 use Rattle.settings.specs.Setting.{settingFor}
-use Rattle.lists.specs.Words.{linksOf, stepsOf, downstreamWord, nodeAt, roadOf, Width, traceOf}
-use Rattle.lists.specs.Rows.{stateIn, flowsIn, stepRoad}
+use Rattle.lists.specs.Words.{linksOf, stepsOf, downstreamWord, nodeAt, roadOf, Width, traceOf, exitSaid, exitsOf}
+use Rattle.lists.specs.Rows.{stateIn, flowsIn, exitIn, stepRoad}
 use Rattle.lists.specs.Fits.{RowFits}
 use Rattle.simulate.proofs.Steps.{DemandRow, demand-row, step-junction, step-next}
 use Rattle.faults.specs.Records.{fixedFault, stepFault}
@@ -34,35 +39,46 @@ use Rattle.convert.proofs.Plans.{trace-jam}
 use Rattle.convert.proofs.Records.{queues-within}
 
 -- row k of a record, as the code has it
-pub record TraceRow (width links : ℕ) (trace : Trace) (k : ℕ) (row : List ℕ) : Type 0 where
+pub record TraceRow (width links : ℕ) (trace : Trace) (said : ℕ → ℕ → Exit) (k : ℕ) (row : List ℕ) : Type 0 where
   pub state : (i : ℕ) → i ≤ links → stateIn width row i ≡ trace .state k i
   pub flows : (i : ℕ) → i ≤ links → flowsIn width row i ≡ trace .flows k i
+  pub exits : (i : ℕ) → i ≤ links → exitIn width row i ≡ said k i
+
+-- words that agree where the row has them say the same exit
+said-same : (width x y : ℕ) → (4 < width → x ≡ y) → exitSaid width x ≡ exitSaid width y
+unfolding exitSaid
+said-same width x y h = by-width (ltb 4 width) refl
+  where
+    by-width : (t : Bool) → ltb 4 width ≡ t → cond t (Said (record { 0 = x })) Unsaid ≡ cond t (Said (record { 0 = y })) Unsaid
+    by-width true e = let q : x ≡ y = h (ltb-true 4 width e) in λ z. Said (record { 0 = q z })
+    by-width false e = refl
 
 -- `at` is where the row starts, and w how many words it has
 pub trace-row : (width : ℕ) (road : Road) (words : List ℕ) (k at w : ℕ) → Width width → at ≡ k * w → w ≡ nodes road * width
-    → TraceRow width (road .links) (traceOf width road words) k (take (at + w - at) (drop at words))
+    → TraceRow width (road .links) (traceOf width road words) (exitsOf width road words) k (take (at + w - at) (drop at words))
 unfolding traceOf stateIn flowsIn
 trace-row width road words k at w wide e q =
     record {
-      state = λ i h. state-eq _ _ (word i 0 h (omega arith)) (word i 1 h (omega arith));
-      flows = λ i h. flows-eq _ _ (word i 2 h (omega arith)) (word i 3 h (omega arith));
+      state = λ i h. state-eq _ _ (word i 0 h (omega (arith, wide .least))) (word i 1 h (omega (arith, wide .least)));
+      flows = λ i h. flows-eq _ _ (word i 2 h (omega (arith, wide .least))) (word i 3 h (omega (arith, wide .least)));
+      exits = λ i h. said-same width _ _ (λ b. word i 4 h b);
     }
   where
-    word : (i j : ℕ) → i ≤ road .links → j < 4 → getD (take (at + w - at) (drop at words)) (i * width + j) 0 ≡ getD words (place width (nodes road) k i j) 0
+    word : (i j : ℕ) → i ≤ road .links → j < width → getD (take (at + w - at) (drop at words)) (i * width + j) 0 ≡ getD words (place width (nodes road) k i j) 0
     word i j h b =
-        part-at at w words (i * width + j) 0 (omega (arith, row-fits i (nodes road) width (omega arith), wide .least))
+        part-at at w words (i * width + j) 0 (omega (arith, row-fits i (nodes road) width (omega arith)))
         ∙ ap (λ (n : ℕ). getD words (n + (i * width + j)) 0) e
         ∙ ap (λ (n : ℕ). getD words (k * n + (i * width + j)) 0) q
 
 -- ---- 7: the row's answer is that of the whole record at state k
 
 pub fixed-told : (width : ℕ) (corridor words : List ℕ) (links steps k : ℕ) (row : List ℕ) (a : Answer)
-    → TraceRow width links (traceOf width (bareRoad corridor links steps) words) k row
+    → TraceRow width links (traceOf width (bareRoad corridor links steps) words) (exitsOf width (bareRoad corridor links steps) words) k row
     → a ≡ firstNode (suc links) k (fixedFaultIn width corridor links steps k row) → a ≡ fixedRowRefusal width corridor links steps words k
 fixed-told width corridor words links steps k row a t e =
     e
     ∙ first-same (suc links) _ _
-    (λ i l. ap (λ (x : ℕ). refusal x k i) (ap₂ (fixedFault (bareRoad corridor links steps) k i) (t .state i (omega arith)) (t .flows i (omega arith))))
+    (λ i l z. refusal (fixedFault (bareRoad corridor links steps) k i (t .state i (omega arith) z) (t .flows i (omega arith) z) (t .exits i (omega arith) z)) k i)
 
 -- a row as the code lends it
 pub fixed-row-told : (width : ℕ) (corridor words : List ℕ) (links steps k at w : ℕ) (a : Answer) → Width width
@@ -75,7 +91,7 @@ fixed-row-told width corridor words links steps k at w a wide e h q =
 -- what it asks of a road, the corridor and its demands have
 pub fixed-are : (width : ℕ) (corridor demands words : List ℕ) (links steps : ℕ) → links ≡ linksOf corridor → steps ≡ stepsOf demands
     → fixedRefusal width corridor links steps words
-    ≡ firstPlace (suc (stepsOf demands)) (suc (linksOf corridor)) (fixedAt (roadOf corridor demands) (traceOf width (roadOf corridor demands) words))
+    ≡ firstPlace (suc (stepsOf demands)) (suc (linksOf corridor)) (fixedAt (roadOf corridor demands) (traceOf width (roadOf corridor demands) words) (exitsOf width (roadOf corridor demands) words))
 unfolding fixedFault bareRoad roadOf traceOf
 fixed-are width corridor demands words links steps n k = ap₂ (λ (l s : ℕ). fixedRefusal width corridor l s words) n k
 
@@ -88,28 +104,31 @@ module _ (width : ℕ) (corridor demands words : List ℕ) (links steps : ℕ) (
   abbrev trace : Trace
   trace = traceOf width (roadOf corridor demands) words
 
+  abbrev said : ℕ → ℕ → Exit
+  said = exitsOf width (roadOf corridor demands) words
+
   n : links ≡ linksOf corridor
   n = ready .corridorFits .first
 
   -- the demands' row comes with the flow that may leave link N, as the lists have it
-  module _ (demand row : List ℕ) (d : DemandRow corridor demands k demand) (t : TraceRow width (linksOf corridor) (traceOf width (roadOf corridor demands) words) k row) (downstream : ℕ) (beyond : downstream ≡ downstreamWord demands links steps k) where
+  module _ (demand row : List ℕ) (d : DemandRow corridor demands k demand) (t : TraceRow width (linksOf corridor) (traceOf width (roadOf corridor demands) words) (exitsOf width (roadOf corridor demands) words) k row) (downstream : ℕ) (beyond : downstream ≡ downstreamWord demands links steps k) where
     row-junction : (i : ℕ) → i ≤ linksOf corridor → junction (stepRoad corridor demand downstream) 0 (stateIn width row) i ≡ junction road k (trace .state k) i
     unfolding roadOf
     row-junction i h =
         step-junction corridor demands k demand d downstream (beyond ∙ ap₂ (λ (x y : ℕ). downstreamWord demands x y k) n (ready .demandsFit .first)) (stateIn width row) i h
         ∙ junction-same road k (stateIn width row) (trace .state k) i (t .state) h
 
-    row-fault : (after : List ℕ) → TraceRow width (linksOf corridor) trace (suc k) after → (i : ℕ) → i ≤ linksOf corridor → stepFaultIn width corridor demand downstream row after i ≡ stepAt road trace k i
+    row-fault : (after : List ℕ) → TraceRow width (linksOf corridor) trace said (suc k) after → (i : ℕ) → i ≤ linksOf corridor → stepFaultIn width corridor demand downstream row after i ≡ stepAt road trace said k i
     unfolding stepFaultIn roadOf
     row-fault after s i h =
         let j : junction (stepRoad corridor demand downstream) 0 (stateIn width row) i ≡ junction road k (trace .state k) i = row-junction i h in
         let m : next (stepRoad corridor demand downstream) 0 (stateIn width row) (flowsIn width row) i ≡ next road k (trace .state k) (trace .flows k) i =
         step-next corridor demands k demand d downstream corridor (stateIn width row) (flowsIn width row) i h
         ∙ next-same road k (stateIn width row) (trace .state k) (flowsIn width row) (trace .flows k) i (t .state) (t .flows) h in
-        λ z. stepFault (j z) (t .flows i h z) (m z) (s .state i h z)
+        λ z. stepFault (j z) (t .flows i h z) (t .exits i h z) (m z) (s .state i h z)
 
     -- the answer on the rows is that of the whole lists at step k
-    pub step-told : (after : List ℕ) (a : Answer) → TraceRow width (linksOf corridor) (traceOf width (roadOf corridor demands) words) (suc k) after
+    pub step-told : (after : List ℕ) (a : Answer) → TraceRow width (linksOf corridor) (traceOf width (roadOf corridor demands) words) (exitsOf width (roadOf corridor demands) words) (suc k) after
         → a ≡ firstNode (suc links) k (stepFaultIn width corridor demand downstream row after)
         → a ≡ stepRefusal width corridor demands links words k
     step-told after a s told =
@@ -148,12 +167,12 @@ module _ (width : ℕ) (corridor demands words : List ℕ) (links steps : ℕ) (
         let limits : Limits road = ready .limits in
         let w : links ≡ linksOf corridor = n in
         let h : k < stepsOf demands = omega (arith, ready .demandsFit .first) in
-        let all = fixed-all road trace .0 (sym (fixed-are width corridor demands words links steps n (ready .demandsFit .first)) ∙ fixed) in
-        let start : (i : ℕ) → i ≤ linksOf corridor → trace .state 0 i ≡ nodeAt corridor i .start = λ i hi. all 0 i (omega arith) hi .first refl in
-        let earlier = steps-all road trace k (subst (λ (l : ℕ). stepsRefusal width corridor demands l words k ≡ Accepted) n before) in
+        let all = fixed-all road trace said .0 (sym (fixed-are width corridor demands words links steps n (ready .demandsFit .first)) ∙ fixed) in
+        let start : (i : ℕ) → i ≤ linksOf corridor → trace .state 0 i ≡ nodeAt corridor i .start = λ i hi. all 0 i (omega arith) hi .0 .first refl in
+        let earlier = steps-all road trace said k (subst (λ (l : ℕ). stepsRefusal width corridor demands l words k ≡ Accepted) n before) in
         node-kept hk j (omega arith)
         (jam-kept road limits trace start k (omega arith) (λ h i a b. earlier h i a b .0) j (omega arith))
-        (queue-kept road limits trace start k (λ h i a b. earlier h i a b .1) j (omega arith))
+        (queue-kept road limits trace start k (λ h i a b. earlier h i a b .2) j (omega arith))
 
     -- and those of a record that is accepted
     module _ (accepted : judged width (roadOf corridor demands) words ≡ Accepted) (hk : k < steps) where
@@ -188,16 +207,16 @@ module _ (width : ℕ) (corridor demands words : List ℕ) (links steps : ℕ) (
       demand-row corridor demands k (1 + r) ((links + 1) * 2) (omega arith) (omega arith)
 
   pub trace-lent : (j at w : ℕ) → at ≡ j * w → w ≡ suc links * width
-      → TraceRow width (linksOf corridor) (traceOf width (roadOf corridor demands) words) j (take (at + w - at) (drop at words))
+      → TraceRow width (linksOf corridor) (traceOf width (roadOf corridor demands) words) (exitsOf width (roadOf corridor demands) words) j (take (at + w - at) (drop at words))
   unfolding roadOf
   trace-lent j at w e q =
       trace-row width (roadOf corridor demands) words j at w (ready .wide) e (q ∙ ap (λ (x : ℕ). suc x * width) n)
 
   -- row k + 1
   pub after-lent : (at w : ℕ) → at ≡ (k + 1) * w → w ≡ suc links * width
-      → TraceRow width (linksOf corridor) (traceOf width (roadOf corridor demands) words) (suc k) (take (at + w - at) (drop at words))
+      → TraceRow width (linksOf corridor) (traceOf width (roadOf corridor demands) words) (exitsOf width (roadOf corridor demands) words) (suc k) (take (at + w - at) (drop at words))
   after-lent at w e q =
-      subst (λ (j : ℕ). TraceRow width (linksOf corridor) trace j (take (at + w - at) (drop at words))) (add-one k) (trace-lent (k + 1) at w e q)
+      subst (λ (j : ℕ). TraceRow width (linksOf corridor) trace said j (take (at + w - at) (drop at words))) (add-one k) (trace-lent (k + 1) at w e q)
 
   pub step-row-told : (r at next w downstream : ℕ) (a : Answer) → r ≡ k * ((links + 1) * 2) → at ≡ k * w → next ≡ (k + 1) * w → w ≡ suc links * width → downstream ≡ downstreamWord demands links steps k
       → a ≡ firstNode (suc links) k

@@ -10,6 +10,7 @@ use Rattle.tables.specs.declared.Answer.{Answer}
 use Rattle.tables.specs.Answer.{isRefused, refusal}
 use Rattle.tables.proofs.Answers.{told-accepted, refusal-accepts}
 use Rattle.tables.proofs.First.{Passed, passed-begun, passed-told}
+use Rattle.road.specs.declared.Exit.{Exit}
 use Rattle.road.specs.declared.Junction as junctions
 use Rattle.road.specs.declared.NodeState as states
 use Rattle.road.specs.declared.Flows as flows
@@ -20,7 +21,7 @@ use Rattle.road.specs.Values.{linkOf, stateOf, junctionOf, flowsOf}
 use Rattle.road.proofs.Rules.{sending-le, through-le}
 use Rattle.settings.specs.Share.{Permitted}
 use Rattle.lists.specs.Words.{nodeAt}
-use Rattle.lists.specs.Rows.{stateIn, flowsIn, stepRoad}
+use Rattle.lists.specs.Rows.{stateIn, flowsIn, exitIn, stepRoad}
 use Rattle.lists.specs.Fits.{JamKept}
 use Rattle.faults.specs.Records.{sameState, fixedFault, stepFault}
 use Rattle.convert.specs.Rows.{bareRoad, fixedFaultIn, stepFaultIn, NodeKept, RowsKept}
@@ -58,15 +59,15 @@ module _ (width : ℕ) (corridor demand row : List ℕ) (links : ℕ) (rows : Ro
         let m : f .main .0 ≡ flowsIn width row i .main = ap (λ (x : Flows). x .main) q in
         (omega arith, omega arith)
 
--- v is the number as the code has it, g what the link gains, x the arrivals, s the state after the step
-pub step-number-is : (width : ℕ) (corridor demand row after : List ℕ) (downstream i v g x : ℕ) (a : junctions.Junction) (f : flows.Flows) (s : states.NodeState)
-    → v ≡ stepFault (junctionOf a) (flowsOf f) (moved (stateOf (a .state)) g x (flowsOf f)) (stateOf s)
-    → junctionOf a ≡ junction (stepRoad corridor demand downstream) 0 (stateIn width row) i → flowsOf f ≡ flowsIn width row i
+-- v is the number as the code has it, g what the link gains, x the arrivals, x′ what is said of the exit, s the state after the step
+pub step-number-is : (width : ℕ) (corridor demand row after : List ℕ) (downstream i v g x : ℕ) (a : junctions.Junction) (f : flows.Flows) (x′ : Exit) (s : states.NodeState)
+    → v ≡ stepFault (junctionOf a) (flowsOf f) x′ (moved (stateOf (a .state)) g x (flowsOf f)) (stateOf s)
+    → junctionOf a ≡ junction (stepRoad corridor demand downstream) 0 (stateIn width row) i → flowsOf f ≡ flowsIn width row i → x′ ≡ exitIn width row i
     → g ≡ inflow (stepRoad corridor demand downstream) 0 (flowsIn width row) i → x ≡ getD demand (i * 2 + 0) 0 → stateOf s ≡ stateIn width after i
     → v ≡ stepFaultIn width corridor demand downstream row after i
 unfolding stepFaultIn junction next stepRoad
-step-number-is width corridor demand row after downstream i v g x a f s e j q n b t =
-    e ∙ (λ z. stepFault (j z) (q z) (moved (j z .state) (n z) (b z) (q z)) (t z))
+step-number-is width corridor demand row after downstream i v g x a f x′ s e j q p n b t =
+    e ∙ (λ z. stepFault (j z) (q z) (p z) (moved (j z .state) (n z) (b z) (q z)) (t z))
 
 -- ---- as a loop's invariant: no node before i has a fault, and g is what link i gains
 
@@ -101,7 +102,7 @@ unfolding stepFaultIn junction stepRoad
 passes-on width corridor demand downstream row after links i k a t rows h e q f =
     let kept : NodeKept width corridor demand row i = rows .kept i (omega arith) in
     let none = refusal-accepts (stepFaultIn width corridor demand downstream row after i) k i .0 (sym e ∙ told-accepted a t q f) in
-    let permitted = step-iff (junction (stepRoad corridor demand downstream) 0 (stateIn width row) i) (flowsIn width row i) _ (stateIn width after i) .0 none .0 .permitted in
+    let permitted = step-iff (junction (stepRoad corridor demand downstream) 0 (stateIn width row) i) (flowsIn width row i) (exitIn width row i) _ (stateIn width after i) .0 none .0 .permitted in
     let sent = permitted .sent in
     let offered = permitted .offered in
     let le = sending-le (nodeAt corridor i .link) (stateIn width row i .vehicles) (nodeAt corridor i .link .fullSpeed) (kept .fullSpeed) in
@@ -122,9 +123,9 @@ module _ (width : ℕ) (demand row : List ℕ) (i b : ℕ) (f : flows.Flows) (q 
 -- ---- one node, by value
 
 -- v is the number of refusal 7 as the code has it
-pub fixed-number-is : (width : ℕ) (corridor row : List ℕ) (links steps k i v : ℕ) (t s : states.NodeState) (f : flows.Flows)
-    → ((road : Road) → links ≡ road .links → steps ≡ road .steps → stateOf t ≡ road .node i .start → v ≡ fixedFault road k i (stateOf s) (flowsOf f))
-    → stateOf t ≡ nodeAt corridor i .start → stateOf s ≡ stateIn width row i → flowsOf f ≡ flowsIn width row i → v ≡ fixedFaultIn width corridor links steps k row i
+pub fixed-number-is : (width : ℕ) (corridor row : List ℕ) (links steps k i v : ℕ) (t s : states.NodeState) (f : flows.Flows) (x : Exit)
+    → ((road : Road) → links ≡ road .links → steps ≡ road .steps → stateOf t ≡ road .node i .start → v ≡ fixedFault road k i (stateOf s) (flowsOf f) x)
+    → stateOf t ≡ nodeAt corridor i .start → stateOf s ≡ stateIn width row i → flowsOf f ≡ flowsIn width row i → x ≡ exitIn width row i → v ≡ fixedFaultIn width corridor links steps k row i
 unfolding bareRoad
-fixed-number-is width corridor row links steps k i v t s f e p q r =
-    e (bareRoad corridor links steps) refl refl p ∙ ap₂ (fixedFault (bareRoad corridor links steps) k i) q r
+fixed-number-is width corridor row links steps k i v t s f x e p q r y =
+    e (bareRoad corridor links steps) refl refl p ∙ (λ z. fixedFault (bareRoad corridor links steps) k i (q z) (r z) (y z))

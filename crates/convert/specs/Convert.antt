@@ -10,8 +10,8 @@ use Rattle.road.specs.Corridor.{Road, Plan, Trace}
 use Rattle.road.specs.Run.{junction}
 use Rattle.settings.specs.declared.Setting.{Setting}
 use Rattle.settings.specs.Setting.{settingFor, rateIn, limitIn}
-use Rattle.lists.specs.Words.{linksOf, stepsOf, roadOf, planWords, recordWidth, traceOf, planLength, recordLength}
-use Rattle.lists.specs.Refusals.{sizes, ranges, planBounds}
+use Rattle.lists.specs.Words.{linksOf, stepsOf, roadOf, planWords, traceOf, planLength, widthOf}
+use Rattle.lists.specs.Refusals.{recordSized, sizes, ranges, planBounds}
 use Rattle.simulate.specs.Simulate.{simulated}
 use Rattle.convert.specs.Refusals.{judged}
 
@@ -27,21 +27,28 @@ planFor road trace =
       limit = λ k i. limitIn (road .node i .link .fullSpeed) (settingAt road trace k i);
     }
 
--- the converter's plan for a record
-unfoldable pub converted : List ℕ → List ℕ → List ℕ → List ℕ
-converted corridor demands words =
-    planWords (roadOf corridor demands) (planFor (roadOf corridor demands) (traceOf recordWidth (roadOf corridor demands) words))
+-- the converter's plan for a record with `width` words for each node
+unfoldable pub convertedBy : ℕ → List ℕ → List ℕ → List ℕ → List ℕ
+convertedBy width corridor demands words = planWords (roadOf corridor demands) (planFor (roadOf corridor demands) (traceOf width (roadOf corridor demands) words))
 
--- "Normal form: simulate into the caller's work record, then convert."
-unfoldable pub normalForm : List ℕ → List ℕ → List ℕ → List ℕ
-normalForm corridor demands plan = converted corridor demands (simulated corridor demands plan)
+-- the record's length tells how many these are
+abbrev pub converted : List ℕ → List ℕ → List ℕ → List ℕ
+converted corridor demands words = convertedBy (widthOf corridor demands (length words)) corridor demands words
 
--- ---- answers: 1, then 2 to 5, then 6 of a plan, then 7 to 13 of a record
+-- "Normal form: simulate into the caller's work record, then convert.": `width` is that of the work record
+unfoldable pub normalForm : ℕ → List ℕ → List ℕ → List ℕ → List ℕ
+normalForm width corridor demands plan = converted corridor demands (simulated width corridor demands plan)
+
+-- ---- answers: 1, then 2 to 5, then 6 of a plan, then 7 to 13 of a record, of the kind that its length tells
+
+-- 2 to 5, then 7 to 13
+abbrev pub recordRefusal : List ℕ → List ℕ → List ℕ → Answer
+recordRefusal corridor demands words =
+    orElse (ranges (roadOf corridor demands)) (judged (widthOf corridor demands (length words)) (roadOf corridor demands) words)
 
 unfoldable pub checkAnswer : List ℕ → List ℕ → List ℕ → Answer
 checkAnswer corridor demands words =
-    orElse (sized (sizes corridor demands && eqb (length words) (recordLength recordWidth (linksOf corridor) (stepsOf demands))))
-    (orElse (ranges (roadOf corridor demands)) (judged recordWidth (roadOf corridor demands) words))
+    orElse (sized (sizes corridor demands && recordSized (linksOf corridor) (stepsOf demands) (length words))) (recordRefusal corridor demands words)
 
 -- `room` is the length of the lent plan
 unfoldable pub convertAnswer : List ℕ → List ℕ → List ℕ → ℕ → Answer
@@ -49,8 +56,8 @@ convertAnswer corridor demands words room =
     orElse
     (sized
     (sizes corridor demands
-    && (eqb (length words) (recordLength recordWidth (linksOf corridor) (stepsOf demands)) && eqb room (planLength (linksOf corridor) (stepsOf demands)))))
-    (orElse (ranges (roadOf corridor demands)) (judged recordWidth (roadOf corridor demands) words))
+    && (recordSized (linksOf corridor) (stepsOf demands) (length words) && eqb room (planLength (linksOf corridor) (stepsOf demands)))))
+    (recordRefusal corridor demands words)
 
 -- 1 to 6: what refuses a normal form before anything is written; `work` and `room` are the lengths of the lent work record and of the lent plan
 unfoldable pub normalRefusal : List ℕ → List ℕ → List ℕ → ℕ → ℕ → Answer
@@ -59,13 +66,13 @@ normalRefusal corridor demands plan work room =
     (sized
     (sizes corridor demands
     && (eqb (length plan) (planLength (linksOf corridor) (stepsOf demands))
-    && (eqb work (recordLength recordWidth (linksOf corridor) (stepsOf demands)) && eqb room (planLength (linksOf corridor) (stepsOf demands))))))
+    && (recordSized (linksOf corridor) (stepsOf demands) work && eqb room (planLength (linksOf corridor) (stepsOf demands))))))
     (orElse (ranges (roadOf corridor demands)) (planBounds corridor demands plan))
 
 unfoldable pub normalAnswer : List ℕ → List ℕ → List ℕ → ℕ → ℕ → Answer
 normalAnswer corridor demands plan work room =
     orElse (normalRefusal corridor demands plan work room)
-    (judged recordWidth (roadOf corridor demands) (simulated corridor demands plan))
+    (judged (widthOf corridor demands work) (roadOf corridor demands) (simulated (widthOf corridor demands work) corridor demands plan))
 
 -- ---- the lent lists at exit
 
@@ -75,7 +82,9 @@ planLeft corridor demands words lent = left (convertAnswer corridor demands word
 
 -- a normal form's work record, filled unless 1 to 6 refuse, and its plan; `room` and `work` are the lengths of the other list
 unfoldable pub workLeft : List ℕ → List ℕ → List ℕ → List ℕ → ℕ → List ℕ
-workLeft corridor demands plan lent room = left (normalRefusal corridor demands plan (length lent) room) (simulated corridor demands plan) lent
+workLeft corridor demands plan lent room =
+    left (normalRefusal corridor demands plan (length lent) room) (simulated (widthOf corridor demands (length lent)) corridor demands plan) lent
 
 unfoldable pub normalLeft : List ℕ → List ℕ → List ℕ → ℕ → List ℕ → List ℕ
-normalLeft corridor demands plan work lent = left (normalAnswer corridor demands plan work (length lent)) (normalForm corridor demands plan) lent
+normalLeft corridor demands plan work lent =
+    left (normalAnswer corridor demands plan work (length lent)) (normalForm (widthOf corridor demands work) corridor demands plan) lent

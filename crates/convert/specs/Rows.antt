@@ -12,8 +12,8 @@ use Rattle.road.specs.Limits.{Limits}
 use Rattle.settings.specs.declared.Setting.{Setting}
 use Rattle.settings.specs.Setting.{settingFor, rateIn, limitIn}
 use Rattle.faults.specs.Records.{fixedFault, stepFault}
-use Rattle.lists.specs.Words.{nodeAt, roadOf, Width, traceOf, recordLength}
-use Rattle.lists.specs.Rows.{stateIn, flowsIn, stepRoad}
+use Rattle.lists.specs.Words.{nodeAt, roadOf, Width, traceOf, exitsOf, recordLength}
+use Rattle.lists.specs.Rows.{stateIn, flowsIn, exitIn, stepRoad}
 use Rattle.lists.specs.Fits.{CorridorFits, DemandsFit, RowFits}
 use Rattle.convert.specs.Refusals.{fixedAt, stepAt}
 
@@ -26,17 +26,17 @@ bareRoad corridor links steps =
 
 -- 7 at node i, in the record's row k
 abbrev pub fixedFaultIn : ℕ → List ℕ → ℕ → ℕ → ℕ → List ℕ → ℕ → ℕ
-fixedFaultIn width corridor links steps k row i = fixedFault (bareRoad corridor links steps) k i (stateIn width row i) (flowsIn width row i)
+fixedFaultIn width corridor links steps k row i = fixedFault (bareRoad corridor links steps) k i (stateIn width row i) (flowsIn width row i) (exitIn width row i)
 
 -- 7 in state k
 abbrev pub fixedRowRefusal : ℕ → List ℕ → ℕ → ℕ → List ℕ → ℕ → Answer
 fixedRowRefusal width corridor links steps words k =
-    firstNode (suc links) k (fixedAt (bareRoad corridor links steps) (traceOf width (bareRoad corridor links steps) words) k)
+    firstNode (suc links) k (fixedAt (bareRoad corridor links steps) (traceOf width (bareRoad corridor links steps) words) (exitsOf width (bareRoad corridor links steps) words) k)
 
 -- 7 over the whole record
 abbrev pub fixedRefusal : ℕ → List ℕ → ℕ → ℕ → List ℕ → Answer
 fixedRefusal width corridor links steps words =
-    firstPlace (suc steps) (suc links) (fixedAt (bareRoad corridor links steps) (traceOf width (bareRoad corridor links steps) words))
+    firstPlace (suc steps) (suc links) (fixedAt (bareRoad corridor links steps) (traceOf width (bareRoad corridor links steps) words) (exitsOf width (bareRoad corridor links steps) words))
 
 -- the vehicles and queues of state k + 1 of a record
 abbrev pub stateCostAt : ℕ → ℕ → ℕ → List ℕ → ℕ → ℕ
@@ -47,18 +47,18 @@ stateCostAt width links steps words k = stateCost (suc links) (traceOf width (ba
 -- at node i, in the step's row of the demands and the record's rows before and after it
 unfoldable pub stepFaultIn : ℕ → List ℕ → List ℕ → ℕ → List ℕ → List ℕ → ℕ → ℕ
 stepFaultIn width corridor demand downstream row after i =
-    stepFault (junction (stepRoad corridor demand downstream) 0 (stateIn width row) i) (flowsIn width row i)
+    stepFault (junction (stepRoad corridor demand downstream) 0 (stateIn width row) i) (flowsIn width row i) (exitIn width row i)
     (next (stepRoad corridor demand downstream) 0 (stateIn width row) (flowsIn width row) i) (stateIn width after i)
 
 -- in step k
 abbrev pub stepRefusal : ℕ → List ℕ → List ℕ → ℕ → List ℕ → ℕ → Answer
 stepRefusal width corridor demands links words k =
-    firstNode (suc links) k (stepAt (roadOf corridor demands) (traceOf width (roadOf corridor demands) words) k)
+    firstNode (suc links) k (stepAt (roadOf corridor demands) (traceOf width (roadOf corridor demands) words) (exitsOf width (roadOf corridor demands) words) k)
 
 -- over the steps before step k
 abbrev pub stepsRefusal : ℕ → List ℕ → List ℕ → ℕ → List ℕ → ℕ → Answer
 stepsRefusal width corridor demands links words k =
-    firstPlace k (suc links) (stepAt (roadOf corridor demands) (traceOf width (roadOf corridor demands) words))
+    firstPlace k (suc links) (stepAt (roadOf corridor demands) (traceOf width (roadOf corridor demands) words) (exitsOf width (roadOf corridor demands) words))
 
 -- ---- the converter's plan
 

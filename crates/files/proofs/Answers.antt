@@ -2,16 +2,16 @@
 use Prim.Native.Nat.{ℕ, _*_}
 use mathlib.Core.Bool.{Bool, true, false, _&&_}
 use mathlib.Core.List.{List}
-use mathlib.Core.Path.{_≡_, refl, sym, ap, _∙_}
-use borrow.Author.Tests.{eqb-true, eq-eqb}
+use mathlib.Core.Path.{_≡_, refl, sym, ap, subst, _∙_}
+use borrow.Author.Tests.{eqb-true}
 use lib.Dec.{eqb}
 use lib.ListN.{length}
 use Rattle.tables.specs.declared.Answer.{Answer}
 use Rattle.tables.specs.declared.Answer.the-variants.{Accepted}
-use Rattle.tables.specs.Answer.{sized}
+use Rattle.tables.specs.Answer.{orElse, sized}
 use Rattle.tables.proofs.Answers.{Refuses, orElse-accepts, or-else-stop, or-else-next, left-refused, left-accepted}
 use Rattle.tables.proofs.Tests.{and-iff}
-use Rattle.lists.specs.Words.{roadOf, recordWidth, planLength}
+use Rattle.lists.specs.Words.{roadOf, planLength, widthOf}
 use Rattle.lists.specs.Refusals.{ranges}
 use Rattle.lists.proofs.Limits.{sized-iff}
 use Rattle.convert.specs.Refusals.{judged}
@@ -23,11 +23,12 @@ use Rattle.block.specs.declared.Kind.the-variants.{Corridor, Demands, Record, P
 use Rattle.block.specs.Kinds.{Told, listLength, ownAgrees, fileKind}
 use Rattle.block.specs.Calls.{toldFits, fileAnswer}
 use Rattle.block.proofs.Calls.{told-is, file-kept, file-bytes}
-use Rattle.files.specs.Files.{corridorIn, demandsIn, recordIn, filesAnswer, readThenCheck, checkFiles, convertFiles, planFile, planWritten}
+use Rattle.files.specs.Files.{corridorIn, demandsIn, fileWidth, recordIn, filesAnswer, readThenCheck, checkFiles, convertFiles, planFile, planWritten}
 use Rattle.files.specs.Fits.{FilesFit, Accepts, wordsAnswer}
 use Rattle.files.proofs.Corridors.{corridor-count, corridor-own}
 use Rattle.files.proofs.Demands.{demands-own}
-use Rattle.files.proofs.Contents.{read-sizes, read-length}
+use Rattle.files.proofs.Records.{record-count}
+use Rattle.files.proofs.Contents.{read-sizes, read-width, read-sized}
 
 -- ---- the three files in turn: a, b and c are their answers as calls gave them, `first` what the corridor's file chose and kind what the demands' did
 
@@ -47,9 +48,11 @@ module _ (n k : ℕ) (corridor demands recorded : List ℕ) (first : Kind) (s : 
     unfolding filesAnswer
     files-second r = or-else-next a b _ _ e h (or-else-stop b _ _ f r)
 
-    pub files-third : b ≡ Accepted → (c : Answer) → c ≡ fileAnswer Record n k recorded → c ≡ filesAnswer n k corridor demands recorded
+    -- `last` is what the record's file chose
+    pub files-third : b ≡ Accepted → (last : Kind) → last ≡ fileKind Record recorded → (c : Answer) → c ≡ fileAnswer last n k recorded
+        → c ≡ filesAnswer n k corridor demands recorded
     unfolding filesAnswer
-    files-third r c q = or-else-next a c _ _ e h (or-else-next b c _ _ f r q)
+    files-third r last l c q = or-else-next a c _ _ e h (or-else-next b c _ _ f r (q ∙ ap (λ (x : Kind). fileAnswer x n k recorded) l))
 
 -- ---- what files that were read keep
 
@@ -58,12 +61,12 @@ pub files-fit : (n k : ℕ) (corridor demands recorded : List ℕ) (a : Answer) 
 unfolding filesAnswer ownAgrees listLength
 files-fit n k corridor demands recorded a told e h =
     let r = orElse-accepts (fileAnswer (fileKind Corridor corridor) n k corridor) _ .0 (sym e ∙ h) in
-    let s = orElse-accepts (fileAnswer (fileKind Demands demands) n k demands) (fileAnswer Record n k recorded) .0 (r .1) in
+    let s = orElse-accepts (fileAnswer (fileKind Demands demands) n k demands) (fileAnswer (fileKind Record recorded) n k recorded) .0 (r .1) in
     record {
       told = told;
       corridorHolds = file-bytes (fileKind Corridor corridor) n k corridor _ refl (r .0) ∙ ap (λ (m : ℕ). blocksFor m * 512) (corridor-count n k corridor);
       demandsHold = file-bytes (fileKind Demands demands) n k demands _ refl (s .0);
-      recordHolds = file-bytes Record n k recorded _ refl (s .1);
+      recordHolds = file-bytes (fileKind Record recorded) n k recorded _ refl (s .1) ∙ ap (λ (m : ℕ). blocksFor m * 512) (record-count n k recorded);
       ownLinks = eqb-true (payloadWord corridor 0) n (sym (corridor-own n k corridor) ∙ file-kept (fileKind Corridor corridor) n k corridor .0 (r .0) .own);
       ownSteps = eqb-true (payloadWord demands 0) k (sym (demands-own n k demands) ∙ file-kept (fileKind Demands demands) n k demands .0 (s .0) .own);
     }
@@ -80,14 +83,18 @@ module _ (n k : ℕ) (corridor demands recorded : List ℕ) (a : Answer) (e : a 
   unfolding readThenCheck
   read-next h told b q =
       let fit = files-fit n k corridor demands recorded a told e h in
-      or-else-next a b _ _ e h (check-rest (corridorIn n corridor) (demandsIn n k demands) (recordIn recordWidth n k recorded) true (tests fit) (sized true) refl b refl q)
+      let kind : fileWidth recorded ≡ widthOf (corridorIn n corridor) (demandsIn n k demands) (length (recordIn (fileWidth recorded) n k recorded)) = sym (read-width n k corridor demands recorded fit) in
+      let words : List ℕ = recordIn (fileWidth recorded) n k recorded in
+      or-else-next a b _ _ e h
+      (check-rest (corridorIn n corridor) (demandsIn n k demands) words true (tests fit) (sized true) refl b refl
+      (q ∙ ap (λ (w : ℕ). orElse (ranges (roadOf (corridorIn n corridor) (demandsIn n k demands))) (judged w (roadOf (corridorIn n corridor) (demandsIn n k demands)) words)) kind))
     where
-      tests : FilesFit n k corridor demands recorded → true ≡ recordTest (corridorIn n corridor) (demandsIn n k demands) (length (recordIn recordWidth n k recorded))
+      tests : FilesFit n k corridor demands recorded → true ≡ recordTest (corridorIn n corridor) (demandsIn n k demands) (length (recordIn (fileWidth recorded) n k recorded))
       tests fit =
           sym
           (and-iff _ _ .1 (
             read-sizes n k corridor demands recorded fit,
-            eq-eqb _ _ (read-length n k corridor demands recorded fit),
+            read-sized n k corridor demands recorded fit,
           ))
 
 pub accepts : (n k : ℕ) (corridor demands recorded : List ℕ) (a : Answer) → Told n k → a ≡ readThenCheck n k corridor demands recorded → a ≡ Accepted
@@ -95,9 +102,16 @@ pub accepts : (n k : ℕ) (corridor demands recorded : List ℕ) (a : Answer) �
 unfolding readThenCheck checkAnswer
 accepts n k corridor demands recorded a told e h =
     let r = orElse-accepts (filesAnswer n k corridor demands recorded) _ .0 (sym e ∙ h) in
-    let s = orElse-accepts (ranges (roadOf (corridorIn n corridor) (demandsIn n k demands))) (judged recordWidth (roadOf (corridorIn n corridor) (demandsIn n k demands)) (recordIn recordWidth n k recorded)) .0
-    (orElse-accepts (sized (recordTest (corridorIn n corridor) (demandsIn n k demands) (length (recordIn recordWidth n k recorded)))) _ .0 (r .1) .1) in
-    (files-fit n k corridor demands recorded _ told refl (r .0), record { ranged = s .0; judges = s .1 })
+    let words : List ℕ = recordIn (fileWidth recorded) n k recorded in
+    let fit = files-fit n k corridor demands recorded _ told refl (r .0) in
+    let s = orElse-accepts (ranges (roadOf (corridorIn n corridor) (demandsIn n k demands))) (judged (widthOf (corridorIn n corridor) (demandsIn n k demands) (length words)) (roadOf (corridorIn n corridor) (demandsIn n k demands)) words) .0
+    (orElse-accepts (sized (recordTest (corridorIn n corridor) (demandsIn n k demands) (length words))) _ .0 (r .1) .1) in (
+      fit,
+      record {
+        ranged = s .0;
+        judges = subst (λ (w : ℕ). judged w (roadOf (corridorIn n corridor) (demandsIn n k demands)) words ≡ Accepted) (read-width n k corridor demands recorded fit) (s .1);
+      },
+    )
 
 -- ---- 1 before all: t and a are what the test of N and K answered, as a test and as an answer
 

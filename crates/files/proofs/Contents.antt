@@ -12,33 +12,35 @@ use Rattle.tables.proofs.Answers.{Refuses, or-else-stop, or-else-next}
 use Rattle.tables.proofs.Tabulate.{tabulate-length, tabulate-at}
 use Rattle.road.specs.Run.{cost}
 use Rattle.faults.specs.Records.{totalFault}
-use Rattle.lists.specs.Words.{linksOf, stepsOf, roadOf, recordWidth, traceOf, traceLength, recordLength}
-use Rattle.lists.specs.Refusals.{sizes, ranges}
+use Rattle.lists.specs.Words.{linksOf, stepsOf, roadOf, traceOf, traceLength, recordLength, widthOf}
+use Rattle.lists.specs.Refusals.{recordSized, sizes, ranges}
 use Rattle.lists.specs.Fits.{CorridorFits, DemandsFit}
 use Rattle.lists.proofs.Limits.{CorridorSized, DemandsSized, sizes-iff}
 use Rattle.lists.proofs.Corridors.{sized-words}
+use Rattle.lists.proofs.Sizes.{record-sized-iff, width-is}
 use Rattle.convert.specs.Refusals.{costFault, judged}
 use Rattle.convert.specs.Rows.{bareRoad, fixedRefusal, stepsRefusal, Ready}
 use Rattle.convert.proofs.Answers.{ready, ready-as, cost-told, judged-fixed, judged-steps, judged-cost}
 use Rattle.payload.specs.File.{blocksFor, payloadWord, payloadPart}
 use Rattle.payload.proofs.Payloads.{payload-all}
-use Rattle.files.specs.Files.{corridorCount, corridorIn, demandsCount, demandsIn, recordIn}
+use Rattle.files.specs.Files.{corridorCount, corridorIn, demandsCount, demandsIn, fileWidth, recordIn}
 use Rattle.files.specs.Fits.{Holds, FilesFit, Accepts, wordsAnswer, FilesReady, FilesKept}
 use Rattle.files.proofs.Corridors.{corridor-sized}
 use Rattle.files.proofs.Demands.{count-low, count-sized}
+use Rattle.files.proofs.Records.{file-wide}
 
 -- the cost's two words, read where they stand: v is the fault's number as the code has it, and a the answer that is made of it
-pub cost-read : (links steps at w total v low high : ℕ) (file : List ℕ) (a : Answer) → low ≡ payloadWord file at → high ≡ payloadWord file (at + 1)
-    → v ≡ totalFault total low high → at ≡ (steps + 1) * w → w ≡ suc links * recordWidth
-    → total ≡ cost (bareRoad [] links steps) (traceOf recordWidth (bareRoad [] links steps) (recordIn recordWidth links steps file)) → a ≡ refusal v 0 0
-    → a ≡ refusal (costFault recordWidth (bareRoad [] links steps) (recordIn recordWidth links steps file)) 0 0
-cost-read links steps at w total v low high file a l h e p q t r =
-    let is : at ≡ traceLength recordWidth links steps = omega (arith, ap (λ (x : ℕ). (steps + 1) * x) q) in
-    cost-told recordWidth links steps at total v (recordIn recordWidth links steps file) a
+pub cost-read : (width links steps at w total v low high : ℕ) (file : List ℕ) (a : Answer) → low ≡ payloadWord file at → high ≡ payloadWord file (at + 1)
+    → v ≡ totalFault total low high → at ≡ (steps + 1) * w → w ≡ suc links * width
+    → total ≡ cost (bareRoad [] links steps) (traceOf width (bareRoad [] links steps) (recordIn width links steps file)) → a ≡ refusal v 0 0
+    → a ≡ refusal (costFault width (bareRoad [] links steps) (recordIn width links steps file)) 0 0
+cost-read width links steps at w total v low high file a l h e p q t r =
+    let is : at ≡ traceLength width links steps = omega (arith, ap (λ (x : ℕ). (steps + 1) * x) q) in
+    cost-told width links steps at total v (recordIn width links steps file) a
     (e
     ∙ ap₂ (totalFault total)
-    (l ∙ sym (tabulate-at (recordLength recordWidth links steps) (payloadWord file) at 0 (omega arith)))
-    (h ∙ sym (tabulate-at (recordLength recordWidth links steps) (payloadWord file) (at + 1) 0 (omega arith))))
+    (l ∙ sym (tabulate-at (recordLength width links steps) (payloadWord file) at 0 (omega arith)))
+    (h ∙ sym (tabulate-at (recordLength width links steps) (payloadWord file) (at + 1) 0 (omega arith))))
     is t r
 
 module _ (links steps : ℕ) (corridor demands recorded : List ℕ) (fit : FilesFit links steps corridor demands recorded) where
@@ -68,13 +70,25 @@ module _ (links steps : ℕ) (corridor demands recorded : List ℕ) (fit : Files
             (subst (DemandsSized links steps) (sym (tabulate-length (demandsCount links steps demands) (payloadWord demands))) (count-sized links steps demands));
       })
 
-  pub read-length : length (recordIn recordWidth links steps recorded) ≡ recordLength recordWidth (linksOf (corridorIn links corridor)) (stepsOf (demandsIn links steps demands))
-  read-length = tabulate-length (recordLength recordWidth links steps) (payloadWord recorded) ∙ ap₂ (recordLength recordWidth) (sym own-links) (sym own-steps)
+  pub read-length : length (recordIn (fileWidth recorded) links steps recorded) ≡ recordLength (fileWidth recorded) (linksOf (corridorIn links corridor)) (stepsOf (demandsIn links steps demands))
+  read-length = tabulate-length (recordLength (fileWidth recorded) links steps) (payloadWord recorded) ∙ ap₂ (recordLength (fileWidth recorded)) (sym own-links) (sym own-steps)
+
+  -- the kind that its file chooses is the one that its length tells
+  pub read-width : widthOf (corridorIn links corridor) (demandsIn links steps demands) (length (recordIn (fileWidth recorded) links steps recorded)) ≡ fileWidth recorded
+  read-width =
+      ap (widthOf (corridorIn links corridor) (demandsIn links steps demands)) read-length
+      ∙ width-is (fileWidth recorded) (linksOf (corridorIn links corridor)) (stepsOf (demandsIn links steps demands)) (file-wide recorded)
+
+  pub read-sized : recordSized (linksOf (corridorIn links corridor)) (stepsOf (demandsIn links steps demands)) (length (recordIn (fileWidth recorded) links steps recorded)) ≡ true
+  read-sized = record-sized-iff _ _ _ .1 (read-length ∙ ap (λ (w : ℕ). recordLength w (linksOf (corridorIn links corridor)) (stepsOf (demandsIn links steps demands))) (sym read-width))
 
   read-ready : (a : Answer) → a ≡ ranges (roadOf (corridorIn links corridor) (demandsIn links steps demands)) → a ≡ Accepted
-      → Ready recordWidth (corridorIn links corridor) (demandsIn links steps demands) (recordIn recordWidth links steps recorded) links steps
+      → Ready (fileWidth recorded) (corridorIn links corridor) (demandsIn links steps demands) (recordIn (fileWidth recorded) links steps recorded) links steps
   read-ready a e h =
-      ready-as _ _ _ _ links steps (ready (corridorIn links corridor) (demandsIn links steps demands) (recordIn recordWidth links steps recorded) a read-sizes read-length e h)
+      ready-as _ _ _ _ links steps
+      (subst (λ (w : ℕ). Ready w (corridorIn links corridor) (demandsIn links steps demands) (recordIn (fileWidth recorded) links steps recorded) (linksOf (corridorIn links corridor)) (stepsOf (demandsIn links steps demands)))
+      read-width
+      (ready (corridorIn links corridor) (demandsIn links steps demands) (recordIn (fileWidth recorded) links steps recorded) a read-sizes (record-sized-iff _ _ _ .0 read-sized) e h))
       (sym own-links) (sym own-steps)
 
   -- ---- the corridor's recorded are unpacked into a list
@@ -98,58 +112,63 @@ module _ (links steps : ℕ) (corridor demands recorded : List ℕ) (fit : Files
         }
 
     list-ready : (a : Answer) → a ≡ ranges (roadOf list (demandsIn links steps demands)) → a ≡ Accepted
-        → Ready recordWidth list (demandsIn links steps demands) (recordIn recordWidth links steps recorded) links steps
+        → Ready (fileWidth recorded) list (demandsIn links steps demands) (recordIn (fileWidth recorded) links steps recorded) links steps
     list-ready =
         subst
-        (λ (x : List ℕ). (a : Answer) → a ≡ ranges (roadOf x (demandsIn links steps demands)) → a ≡ Accepted → Ready recordWidth x (demandsIn links steps demands) (recordIn recordWidth links steps recorded) links steps)
+        (λ (x : List ℕ). (a : Answer) → a ≡ ranges (roadOf x (demandsIn links steps demands)) → a ≡ Accepted → Ready (fileWidth recorded) x (demandsIn links steps demands) (recordIn (fileWidth recorded) links steps recorded) links steps)
         corridor-read read-ready
 
-    pub list-files : (a : Answer) → a ≡ ranges (roadOf list (demandsIn links steps demands)) → a ≡ Accepted → FilesReady links steps list demands recorded
-    list-files a e h = record { ready = list-ready a e h; demandsHold = fit .demandsHold; recordHolds = fit .recordHolds }
+    -- w is the record's width as the code has it
+    pub list-files : (a : Answer) → a ≡ ranges (roadOf list (demandsIn links steps demands)) → a ≡ Accepted → (w : ℕ) → w ≡ fileWidth recorded → FilesReady w links steps list demands recorded
+    list-files a e h w q =
+        subst (λ (x : ℕ). FilesReady x links steps list demands recorded) (sym q)
+        (record { ready = list-ready a e h; demandsHold = fit .demandsHold; recordHolds = fit .recordHolds })
 
     -- a is what 2 to 5 answered, and b what 7 to 13 did
     pub contents-stop : (a : Answer) → a ≡ ranges (roadOf list (demandsIn links steps demands)) → Refuses a → a ≡ wordsAnswer links steps corridor demands recorded
     contents-stop a e h =
         or-else-stop a _ _ (e ∙ ap (λ (x : List ℕ). ranges (roadOf x (demandsIn links steps demands))) (sym corridor-read)) h
 
-    pub contents-next : (a b : Answer) → a ≡ ranges (roadOf list (demandsIn links steps demands)) → a ≡ Accepted → b ≡ judged recordWidth (roadOf list (demandsIn links steps demands)) (recordIn recordWidth links steps recorded)
-        → b ≡ wordsAnswer links steps corridor demands recorded
-    contents-next a b e h q =
+    pub contents-next : (a b : Answer) → a ≡ ranges (roadOf list (demandsIn links steps demands)) → a ≡ Accepted → (w : ℕ) → w ≡ fileWidth recorded
+        → b ≡ judged w (roadOf list (demandsIn links steps demands)) (recordIn w links steps recorded) → b ≡ wordsAnswer links steps corridor demands recorded
+    contents-next a b e h w p q =
         or-else-next a b _ _ (e ∙ ap (λ (x : List ℕ). ranges (roadOf x (demandsIn links steps demands))) (sym corridor-read)) h
-        (q ∙ ap (λ (x : List ℕ). judged recordWidth (roadOf x (demandsIn links steps demands)) (recordIn recordWidth links steps recorded)) (sym corridor-read))
+        (q ∙ ap (λ (x : ℕ). judged x (roadOf list (demandsIn links steps demands)) (recordIn x links steps recorded)) p
+        ∙ ap (λ (x : List ℕ). judged (fileWidth recorded) (roadOf x (demandsIn links steps demands)) (recordIn (fileWidth recorded) links steps recorded)) (sym corridor-read))
 
-    pub list-kept : Accepts links steps corridor demands recorded → FilesKept links steps list demands recorded
-    list-kept h =
-        record {
-          files = list-files _ refl (subst (λ (x : List ℕ). ranges (roadOf x (demandsIn links steps demands)) ≡ Accepted) corridor-read (h .ranged));
-          judges = subst (λ (x : List ℕ). judged recordWidth (roadOf x (demandsIn links steps demands)) (recordIn recordWidth links steps recorded) ≡ Accepted) corridor-read (h .judges);
-        }
+    pub list-kept : Accepts links steps corridor demands recorded → (w : ℕ) → w ≡ fileWidth recorded → FilesKept w links steps list demands recorded
+    list-kept h w q =
+        subst (λ (x : ℕ). FilesKept x links steps list demands recorded) (sym q)
+        (record {
+          files = list-files _ refl (subst (λ (x : List ℕ). ranges (roadOf x (demandsIn links steps demands)) ≡ Accepted) corridor-read (h .ranged)) _ refl;
+          judges = subst (λ (x : List ℕ). judged (fileWidth recorded) (roadOf x (demandsIn links steps demands)) (recordIn (fileWidth recorded) links steps recorded) ≡ Accepted) corridor-read (h .judges);
+        })
 
 -- ---- the cost's words lie in the record's file: at is where they start, and w how many words a row has
 
-pub cost-inside : (links steps at w : ℕ) (file : List ℕ) → at ≡ (steps + 1) * w → w ≡ suc links * recordWidth → Holds (recordLength recordWidth links steps) file
+pub cost-inside : (width links steps at w : ℕ) (file : List ℕ) → at ≡ (steps + 1) * w → w ≡ suc links * width → Holds (recordLength width links steps) file
     → blocksFor (at + 2) * 512 ≡ length file
-cost-inside links steps at w file e q h = omega (arith, ap (λ (x : ℕ). (steps + 1) * x) q)
+cost-inside width links steps at w file e q h = omega (arith, ap (λ (x : ℕ). (steps + 1) * x) q)
 
 -- ---- 7 to 13 of files whose words are ready: a is the first scan's answer, b the second's, c the third's
 
-module _ (links steps : ℕ) (corridor demands recorded : List ℕ) (files : FilesReady links steps corridor demands recorded) where
-  own : Ready recordWidth corridor (demandsIn links steps demands) (recordIn recordWidth links steps recorded) (linksOf corridor) (stepsOf (demandsIn links steps demands))
+module _ (width links steps : ℕ) (corridor demands recorded : List ℕ) (files : FilesReady width links steps corridor demands recorded) where
+  own : Ready width corridor (demandsIn links steps demands) (recordIn width links steps recorded) (linksOf corridor) (stepsOf (demandsIn links steps demands))
   own =
-      subst₂ (λ (l s : ℕ). Ready recordWidth corridor (demandsIn links steps demands) (recordIn recordWidth links steps recorded) l s)
+      subst₂ (λ (l s : ℕ). Ready width corridor (demandsIn links steps demands) (recordIn width links steps recorded) l s)
       (files .ready .corridorFits .first) (files .ready .demandsFit .first) (files .ready)
 
-  pub files-fixed : (a : Answer) → a ≡ fixedRefusal recordWidth corridor links steps (recordIn recordWidth links steps recorded) → Refuses a
-      → a ≡ judged recordWidth (roadOf corridor (demandsIn links steps demands)) (recordIn recordWidth links steps recorded)
+  pub files-fixed : (a : Answer) → a ≡ fixedRefusal width corridor links steps (recordIn width links steps recorded) → Refuses a
+      → a ≡ judged width (roadOf corridor (demandsIn links steps demands)) (recordIn width links steps recorded)
   files-fixed a e h = judged-fixed _ _ _ _ links steps own (files .ready .corridorFits .first) (files .ready .demandsFit .first) a e h
 
-  pub files-steps : (a b : Answer) → a ≡ fixedRefusal recordWidth corridor links steps (recordIn recordWidth links steps recorded) → a ≡ Accepted
-      → b ≡ stepsRefusal recordWidth corridor (demandsIn links steps demands) links (recordIn recordWidth links steps recorded) steps → Refuses b
-      → b ≡ judged recordWidth (roadOf corridor (demandsIn links steps demands)) (recordIn recordWidth links steps recorded)
+  pub files-steps : (a b : Answer) → a ≡ fixedRefusal width corridor links steps (recordIn width links steps recorded) → a ≡ Accepted
+      → b ≡ stepsRefusal width corridor (demandsIn links steps demands) links (recordIn width links steps recorded) steps → Refuses b
+      → b ≡ judged width (roadOf corridor (demandsIn links steps demands)) (recordIn width links steps recorded)
   files-steps a b e h q p = judged-steps _ _ _ _ links steps own (files .ready .corridorFits .first) (files .ready .demandsFit .first) a b e h q p
 
-  pub files-cost : (a b c : Answer) → a ≡ fixedRefusal recordWidth corridor links steps (recordIn recordWidth links steps recorded) → a ≡ Accepted
-      → b ≡ stepsRefusal recordWidth corridor (demandsIn links steps demands) links (recordIn recordWidth links steps recorded) steps → b ≡ Accepted
-      → c ≡ refusal (costFault recordWidth (bareRoad [] links steps) (recordIn recordWidth links steps recorded)) 0 0
-      → c ≡ judged recordWidth (roadOf corridor (demandsIn links steps demands)) (recordIn recordWidth links steps recorded)
+  pub files-cost : (a b c : Answer) → a ≡ fixedRefusal width corridor links steps (recordIn width links steps recorded) → a ≡ Accepted
+      → b ≡ stepsRefusal width corridor (demandsIn links steps demands) links (recordIn width links steps recorded) steps → b ≡ Accepted
+      → c ≡ refusal (costFault width (bareRoad [] links steps) (recordIn width links steps recorded)) 0 0
+      → c ≡ judged width (roadOf corridor (demandsIn links steps demands)) (recordIn width links steps recorded)
   files-cost a b c e h q p t = judged-cost _ _ _ _ links steps own (files .ready .corridorFits .first) (files .ready .demandsFit .first) a b c e h q p t

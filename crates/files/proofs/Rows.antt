@@ -11,7 +11,7 @@ use Rattle.tables.specs.First.{firstNode}
 use Rattle.tables.proofs.Numbers.{row-fits}
 use Rattle.tables.proofs.Tabulate.{tabulate-length}
 use Rattle.lists.specs.declared.inner.scans.NodeTest.{NodeTest}
-use Rattle.lists.specs.Words.{linksOf, free, roadOf, recordWidth, Width, traceOf, recordLength}
+use Rattle.lists.specs.Words.{linksOf, free, roadOf, Width, traceOf, exitsOf, recordLength}
 use Rattle.lists.specs.Fits.{RowFits}
 use Rattle.lists.specs.Scans.{nodeFaultIn, nodeFaultAt}
 use Rattle.lists.proofs.Scans.{row-told}
@@ -45,9 +45,9 @@ pub demand-holds : (links steps at count : ℕ) (file : List ℕ) → at + (link
 demand-holds links steps at count file h e c = omega (arith, count-low links steps file, ap (λ (n : ℕ). steps * (n * 2)) (add-one links))
 
 -- a record's row of w words that begins at `at`, as calls gave them, lies in the file
-pub state-holds : (links steps at w count : ℕ) (file : List ℕ) → at + w ≤ (steps + 1) * w → w ≡ suc links * recordWidth → count ≡ suc links * recordWidth
-    → Holds (recordLength recordWidth links steps) file → blocksFor (at + count) * 512 ≤ length file
-state-holds links steps at w count file h q c e = omega (arith, ap (λ (x : ℕ). (steps + 1) * x) q)
+pub state-holds : (width links steps at w count : ℕ) (file : List ℕ) → at + w ≤ (steps + 1) * w → w ≡ suc links * width → count ≡ suc links * width
+    → Holds (recordLength width links steps) file → blocksFor (at + count) * 512 ≤ length file
+state-holds width links steps at w count file h q c e = omega (arith, ap (λ (x : ℕ). (steps + 1) * x) q)
 
 -- ---- it is a part of the list, and what a call finds in it, it finds in the whole list
 
@@ -87,9 +87,9 @@ module _ (width : ℕ) (wide : Width width) (links steps : ℕ) (file : List ℕ
 
 module _ (width : ℕ) (corridor demands recorded : List ℕ) (links steps : ℕ) (ready : Ready width corridor (demandsIn links steps demands) (recordIn width links steps recorded) links steps) where
   state-read : (k : ℕ) (row : List ℕ) → row ≡ stateRowIn width links recorded k → k ≤ steps
-      → TraceRow width (linksOf corridor) (traceOf width (roadOf corridor (demandsIn links steps demands)) (recordIn width links steps recorded)) k row
+      → TraceRow width (linksOf corridor) (traceOf width (roadOf corridor (demandsIn links steps demands)) (recordIn width links steps recorded)) (exitsOf width (roadOf corridor (demandsIn links steps demands)) (recordIn width links steps recorded)) k row
   state-read k row told h =
-      subst (λ (x : List ℕ). TraceRow width (linksOf corridor) (traceOf width (roadOf corridor (demandsIn links steps demands)) (recordIn width links steps recorded)) k x)
+      subst (λ (x : List ℕ). TraceRow width (linksOf corridor) (traceOf width (roadOf corridor (demandsIn links steps demands)) (recordIn width links steps recorded)) (exitsOf width (roadOf corridor (demandsIn links steps demands)) (recordIn width links steps recorded)) k x)
       (sym (state-part width (ready .wide) links steps recorded k row told h))
       (trace-lent width corridor (demandsIn links steps demands) (recordIn width links steps recorded) links steps ready k k (k * (suc links * width)) (suc links * width) refl refl)
 
@@ -99,7 +99,7 @@ module _ (width : ℕ) (corridor demands recorded : List ℕ) (links steps : ℕ
         subst (λ (x : List ℕ). DemandRow corridor (demandsIn links steps demands) k x) (sym (demand-part links steps k demands demand d h))
         (demand-lent width corridor (demandsIn links steps demands) (recordIn width links steps recorded) links steps ready k (k * ((links + 1) * 2)) refl)
 
-    row-read : TraceRow width (linksOf corridor) (traceOf width (roadOf corridor (demandsIn links steps demands)) (recordIn width links steps recorded)) k row
+    row-read : TraceRow width (linksOf corridor) (traceOf width (roadOf corridor (demandsIn links steps demands)) (recordIn width links steps recorded)) (exitsOf width (roadOf corridor (demandsIn links steps demands)) (recordIn width links steps recorded)) k row
     row-read = state-read k row t (omega arith)
 
     pub step-found : (downstream : ℕ) → downstream ≡ downstreamIn links steps demands k → (after : List ℕ) (a : Answer) → after ≡ stateRowIn width links recorded (k + 1)
@@ -107,7 +107,7 @@ module _ (width : ℕ) (corridor demands recorded : List ℕ) (links steps : ℕ
         → a ≡ stepRefusal width corridor (demandsIn links steps demands) links (recordIn width links steps recorded) k
     step-found downstream f after a told =
         step-told width corridor _ _ links steps ready k demand row demand-read row-read downstream f after a
-        (subst (λ (j : ℕ). TraceRow width (linksOf corridor) (traceOf width (roadOf corridor (demandsIn links steps demands)) (recordIn width links steps recorded)) j after) (add-one k)
+        (subst (λ (j : ℕ). TraceRow width (linksOf corridor) (traceOf width (roadOf corridor (demandsIn links steps demands)) (recordIn width links steps recorded)) (exitsOf width (roadOf corridor (demandsIn links steps demands)) (recordIn width links steps recorded)) j after) (add-one k)
         (state-read (k + 1) after told (omega arith)))
 
     pub setting-found : (downstream : ℕ) → downstream ≡ downstreamIn links steps demands k → (i : ℕ) → i ≤ links → settingIn width corridor demand downstream row i

@@ -12,22 +12,22 @@ use Rattle.tables.specs.Answer.{orElse, left, sized}
 use Rattle.tables.proofs.Answers.{orElse-assoc, orElse-accepts}
 use Rattle.tables.proofs.Grid.{grid-length}
 use Rattle.tables.proofs.Tests.{and-iff}
-use Rattle.lists.specs.Words.{linksOf, stepsOf, roadOf, recordWidth, planLength, recordLength, planWords}
-use Rattle.lists.specs.Refusals.{sizes, ranges}
+use Rattle.lists.specs.Words.{linksOf, stepsOf, roadOf, planLength, planWords}
+use Rattle.lists.specs.Refusals.{recordSized, sizes}
 use Rattle.lists.proofs.Limits.{sized-iff}
-use Rattle.convert.specs.Refusals.{judged}
-use Rattle.convert.specs.Convert.{converted, checkAnswer, convertAnswer}
+use Rattle.convert.specs.Convert.{convertedBy, converted, recordRefusal, checkAnswer, convertAnswer}
 use Rattle.payload.specs.File.{blocksFor, payloadOf, fileOf}
 use Rattle.block.specs.declared.Kind.{Kind}
 use Rattle.block.specs.declared.Kind.the-variants.{Corridor, Demands, Record, Plan}
 use Rattle.block.specs.Kinds.{kindNumber, listLength, ownAgrees, fileKind}
 use Rattle.block.specs.Calls.{toldFits, fileAnswer, readAnswer, wordsRead, writeAnswer, fileWritten}
 use Rattle.block.proofs.Calls.{told-is}
-use Rattle.files.specs.Files.{corridorIn, demandsIn, recordIn, filesAnswer, readThenCheck, checkFiles, convertFiles, planFile, planWritten}
+use Rattle.files.specs.Files.{corridorIn, demandsIn, fileWidth, recordIn, filesAnswer, readThenCheck, checkFiles, convertFiles, planFile, planWritten}
 use Rattle.files.specs.Fits.{FilesFit}
 use Rattle.files.specs.Turns.{inTurn, Turns}
 use Rattle.files.proofs.Contents.{own-links, own-steps}
 use Rattle.files.proofs.Corridors.{corridor-count}
+use Rattle.files.proofs.Records.{record-count}
 use Rattle.files.proofs.Answers.{files-fit}
 
 -- an answer that comes second counts only where the first accepts
@@ -55,63 +55,63 @@ module _ (kind : Kind) (n k : ℕ) (file lent : List ℕ) (told : toldFits n k �
 -- ---- all three
 
 module _ (n k : ℕ) (corridor demands recorded a b c : List ℕ) (told : toldFits n k ≡ true)
-    (p : length a ≡ listLength (fileKind Corridor corridor) n k) (q : length b ≡ listLength (fileKind Demands demands) n k) (r : length c ≡ listLength Record n k) where
+    (p : length a ≡ listLength (fileKind Corridor corridor) n k) (q : length b ≡ listLength (fileKind Demands demands) n k) (r : length c ≡ listLength (fileKind Record recorded) n k) where
   turns : (rest : List ℕ → List ℕ → List ℕ → Answer)
-      → orElse (filesAnswer n k corridor demands recorded) (rest (corridorIn n corridor) (demandsIn n k demands) (recordIn recordWidth n k recorded)) ≡ inTurn n k corridor demands recorded a b c rest
+      → orElse (filesAnswer n k corridor demands recorded) (rest (corridorIn n corridor) (demandsIn n k demands) (recordIn (fileWidth recorded) n k recorded)) ≡ inTurn n k corridor demands recorded a b c rest
   unfolding filesAnswer inTurn listLength
   turns rest =
       orElse-assoc (fileAnswer (fileKind Corridor corridor) n k corridor) _ _
       ∙ ap (orElse (fileAnswer (fileKind Corridor corridor) n k corridor))
       (orElse-assoc (fileAnswer (fileKind Demands demands) n k demands) _ _
-      ∙ ap (orElse (fileAnswer (fileKind Demands demands) n k demands)) (one-turn Record n k recorded c told r _ refl (λ z. rest (corridorIn n corridor) (demandsIn n k demands) z))
-      ∙ one-turn (fileKind Demands demands) n k demands b told q _ refl (λ y. orElse (readAnswer Record n k recorded (length c)) (rest (corridorIn n corridor) y (wordsRead Record n k recorded c))))
+      ∙ ap (orElse (fileAnswer (fileKind Demands demands) n k demands)) (one-turn (fileKind Record recorded) n k recorded c told r _ (record-count n k recorded) (λ z. rest (corridorIn n corridor) (demandsIn n k demands) z))
+      ∙ one-turn (fileKind Demands demands) n k demands b told q _ refl (λ y. orElse (readAnswer (fileKind Record recorded) n k recorded (length c)) (rest (corridorIn n corridor) y (wordsRead (fileKind Record recorded) n k recorded c))))
       ∙ one-turn (fileKind Corridor corridor) n k corridor a told p _ (corridor-count n k corridor)
-      (λ x. orElse (readAnswer (fileKind Demands demands) n k demands (length b)) (orElse (readAnswer Record n k recorded (length c)) (rest x (wordsRead (fileKind Demands demands) n k demands b) (wordsRead Record n k recorded c))))
+      (λ x. orElse (readAnswer (fileKind Demands demands) n k demands (length b)) (orElse (readAnswer (fileKind Record recorded) n k recorded (length c)) (rest x (wordsRead (fileKind Demands demands) n k demands b) (wordsRead (fileKind Record recorded) n k recorded c))))
 
   -- the converter's plan of lists with this N and K has the right length for them
   convert-same : filesAnswer n k corridor demands recorded ≡ Accepted
-      → checkAnswer (corridorIn n corridor) (demandsIn n k demands) (recordIn recordWidth n k recorded)
-      ≡ convertAnswer (corridorIn n corridor) (demandsIn n k demands) (recordIn recordWidth n k recorded) (planLength n k)
+      → checkAnswer (corridorIn n corridor) (demandsIn n k demands) (recordIn (fileWidth recorded) n k recorded)
+      ≡ convertAnswer (corridorIn n corridor) (demandsIn n k demands) (recordIn (fileWidth recorded) n k recorded) (planLength n k)
   unfolding checkAnswer convertAnswer
   convert-same h =
       let fit = files-fit n k corridor demands recorded _ (told-is n k _ refl told) refl h in
       let room : eqb (planLength n k) (planLength (linksOf (corridorIn n corridor)) (stepsOf (demandsIn n k demands))) ≡ true =
       eq-eqb _ _ (ap₂ planLength (sym (own-links n k corridor demands recorded fit)) (sym (own-steps n k corridor demands recorded fit))) in
-      ap (λ (t : Bool). orElse (sized t) (orElse (ranges (roadOf (corridorIn n corridor) (demandsIn n k demands))) (judged recordWidth (roadOf (corridorIn n corridor) (demandsIn n k demands)) (recordIn recordWidth n k recorded))))
+      ap (λ (t : Bool). orElse (sized t) (recordRefusal (corridorIn n corridor) (demandsIn n k demands) (recordIn (fileWidth recorded) n k recorded)))
       (and-last (sizes (corridorIn n corridor) (demandsIn n k demands))
-      (eqb (length (recordIn recordWidth n k recorded)) (recordLength recordWidth (linksOf (corridorIn n corridor)) (stepsOf (demandsIn n k demands)))) _ room)
+      (recordSized (linksOf (corridorIn n corridor)) (stepsOf (demandsIn n k demands)) (length (recordIn (fileWidth recorded) n k recorded))) _ room)
     where
       and-last : (s t u : Bool) → u ≡ true → s && t ≡ s && (t && u)
       and-last true true u e = sym e
       and-last true false u e = refl
       and-last false t u e = refl
 
-  plan-count : FilesFit n k corridor demands recorded → length (converted (corridorIn n corridor) (demandsIn n k demands) (recordIn recordWidth n k recorded)) ≡ planLength n k
-  unfolding converted planWords roadOf
+  plan-count : FilesFit n k corridor demands recorded → length (converted (corridorIn n corridor) (demandsIn n k demands) (recordIn (fileWidth recorded) n k recorded)) ≡ planLength n k
+  unfolding convertedBy planWords roadOf
   plan-count fit =
       grid-length 2 _ _ _
       ∙ ap₂ planLength (own-links n k corridor demands recorded fit) (own-steps n k corridor demands recorded fit)
 
   -- the writer takes that plan, into a file of the right length
   plan-taken : (room : ℕ) → FilesFit n k corridor demands recorded → eqb room (blocksFor (planLength n k) * 512) ≡ true
-      → writeAnswer Plan n k (converted (corridorIn n corridor) (demandsIn n k demands) (recordIn recordWidth n k recorded)) room ≡ Accepted
+      → writeAnswer Plan n k (converted (corridorIn n corridor) (demandsIn n k demands) (recordIn (fileWidth recorded) n k recorded)) room ≡ Accepted
   unfolding writeAnswer listLength ownAgrees
   plan-taken room fit h =
       ap sized (and-iff _ _ .1 (told, and-iff _ _ .1 (h, and-iff _ _ .1 (eq-eqb _ _ (plan-count fit), refl))))
 
   written : (lent : List ℕ) → filesAnswer n k corridor demands recorded ≡ Accepted → eqb (length lent) (blocksFor (planLength n k) * 512) ≡ true
       → planFile n k corridor demands recorded
-      ≡ fileWritten Plan n k (converted (wordsRead (fileKind Corridor corridor) n k corridor a) (wordsRead (fileKind Demands demands) n k demands b) (wordsRead Record n k recorded c)) lent
+      ≡ fileWritten Plan n k (converted (wordsRead (fileKind Corridor corridor) n k corridor a) (wordsRead (fileKind Demands demands) n k demands b) (wordsRead (fileKind Record recorded) n k recorded c)) lent
   unfolding filesAnswer planFile fileWritten listLength
   written lent h room =
       let fit = files-fit n k corridor demands recorded _ (told-is n k _ refl told) refl h in
       let first = orElse-accepts (fileAnswer (fileKind Corridor corridor) n k corridor) _ .0 h in
-      let rest = orElse-accepts (fileAnswer (fileKind Demands demands) n k demands) (fileAnswer Record n k recorded) .0 (first .1) in
-      let plan : List ℕ = converted (corridorIn n corridor) (demandsIn n k demands) (recordIn recordWidth n k recorded) in
-      let same : converted (wordsRead (fileKind Corridor corridor) n k corridor a) (wordsRead (fileKind Demands demands) n k demands b) (wordsRead Record n k recorded c) ≡ plan =
+      let rest = orElse-accepts (fileAnswer (fileKind Demands demands) n k demands) (fileAnswer (fileKind Record recorded) n k recorded) .0 (first .1) in
+      let plan : List ℕ = converted (corridorIn n corridor) (demandsIn n k demands) (recordIn (fileWidth recorded) n k recorded) in
+      let same : converted (wordsRead (fileKind Corridor corridor) n k corridor a) (wordsRead (fileKind Demands demands) n k demands b) (wordsRead (fileKind Record recorded) n k recorded c) ≡ plan =
       λ z.
       converted (recorded-are (fileKind Corridor corridor) n k corridor a told p _ (corridor-count n k corridor) (first .0) z) (recorded-are (fileKind Demands demands) n k demands b told q _ refl (rest .0) z)
-      (recorded-are Record n k recorded c told r _ refl (rest .1) z) in
+      (recorded-are (fileKind Record recorded) n k recorded c told r _ (record-count n k recorded) (rest .1) z) in
       sym (ap (λ (x : Answer). left x (fileOf (kindNumber Plan) plan) lent) (plan-taken (length lent) fit room))
       ∙ ap (λ (x : List ℕ). fileWritten Plan n k x lent) (sym same)
 
@@ -120,7 +120,7 @@ pub sized-same : (t : Bool) (x y : Answer) → (t ≡ true → x ≡ y) → orEl
 sized-same true x y h = h refl
 sized-same false x y h = refl
 
-pub as-lists : (n k : ℕ) (corridor demands recorded a b c : List ℕ) → length a ≡ listLength (fileKind Corridor corridor) n k → length b ≡ listLength (fileKind Demands demands) n k → length c ≡ listLength Record n k
+pub as-lists : (n k : ℕ) (corridor demands recorded a b c : List ℕ) → length a ≡ listLength (fileKind Corridor corridor) n k → length b ≡ listLength (fileKind Demands demands) n k → length c ≡ listLength (fileKind Record recorded) n k
     → Turns n k corridor demands recorded a b c
 unfolding checkFiles convertFiles readThenCheck planWritten
 as-lists n k corridor demands recorded a b c p q r =

@@ -7,7 +7,7 @@ use lib.Dec.{eqb}
 use lib.ListN.{length}
 use Rattle.tables.specs.declared.Answer.{Answer}
 use Rattle.tables.specs.Answer.{orElse, left, sized}
-use Rattle.lists.specs.Words.{recordWidth, corridorLength, planLength, recordLength}
+use Rattle.lists.specs.Words.{corridorLength, planLength, recordLength}
 use Rattle.convert.specs.Convert.{checkAnswer, converted}
 use Rattle.payload.specs.File.{blocksFor, payloadOf, fileOf}
 use Rattle.block.specs.declared.Kind.the-variants.{Corridor, Demands, Record, Plan}
@@ -30,6 +30,10 @@ demandsCount n k file = listLength (fileKind Demands file) n k
 abbrev pub demandsIn : ℕ → ℕ → List ℕ → List ℕ
 demandsIn n k file = payloadOf (demandsCount n k file) file
 
+-- a record of kind 3 or of kind 7, chosen in the same way: how many words a node has in it, and all its words
+abbrev pub fileWidth : List ℕ → ℕ
+fileWidth file = cond (saysLater Record file) 5 4
+
 abbrev pub recordIn : ℕ → ℕ → ℕ → List ℕ → List ℕ
 recordIn width n k file = payloadOf (recordLength width n k) file
 
@@ -38,12 +42,12 @@ recordIn width n k file = payloadOf (recordLength width n k) file
 -- 14 to 18, and 1 for an own N or K that differs: each file is read whole before the next
 unfoldable pub filesAnswer : ℕ → ℕ → List ℕ → List ℕ → List ℕ → Answer
 filesAnswer n k corridor demands recorded =
-    orElse (fileAnswer (fileKind Corridor corridor) n k corridor) (orElse (fileAnswer (fileKind Demands demands) n k demands) (fileAnswer Record n k recorded))
+    orElse (fileAnswer (fileKind Corridor corridor) n k corridor) (orElse (fileAnswer (fileKind Demands demands) n k demands) (fileAnswer (fileKind Record recorded) n k recorded))
 
 -- then what the checker answers to the words that were read
 unfoldable pub readThenCheck : ℕ → ℕ → List ℕ → List ℕ → List ℕ → Answer
 readThenCheck n k corridor demands recorded =
-    orElse (filesAnswer n k corridor demands recorded) (checkAnswer (corridorIn n corridor) (demandsIn n k demands) (recordIn recordWidth n k recorded))
+    orElse (filesAnswer n k corridor demands recorded) (checkAnswer (corridorIn n corridor) (demandsIn n k demands) (recordIn (fileWidth recorded) n k recorded))
 
 unfoldable pub checkFiles : ℕ → ℕ → List ℕ → List ℕ → List ℕ → Answer
 checkFiles n k corridor demands recorded = orElse (sized (toldFits n k)) (readThenCheck n k corridor demands recorded)
@@ -57,7 +61,7 @@ convertFiles n k corridor demands recorded room =
 
 unfoldable pub planFile : ℕ → ℕ → List ℕ → List ℕ → List ℕ → List ℕ
 planFile n k corridor demands recorded =
-    fileOf (kindNumber Plan) (converted (corridorIn n corridor) (demandsIn n k demands) (recordIn recordWidth n k recorded))
+    fileOf (kindNumber Plan) (converted (corridorIn n corridor) (demandsIn n k demands) (recordIn (fileWidth recorded) n k recorded))
 
 -- the lent file at exit
 unfoldable pub planWritten : ℕ → ℕ → List ℕ → List ℕ → List ℕ → List ℕ → List ℕ

@@ -6,13 +6,13 @@ use lib.ListN.{length}
 use Rattle.tables.specs.declared.Answer.{Answer}
 use Rattle.tables.specs.declared.Answer.the-variants.{Accepted}
 use Rattle.tables.specs.Answer.{orElse}
-use Rattle.lists.specs.Words.{downstreamWord, roadOf, recordWidth, recordLength}
+use Rattle.lists.specs.Words.{downstreamWord, roadOf, recordLength}
 use Rattle.lists.specs.Refusals.{ranges}
 use Rattle.convert.specs.Refusals.{judged}
 use Rattle.convert.specs.Rows.{planRow, Ready}
 use Rattle.payload.specs.File.{blocksFor, payloadWord, payloadPart}
 use Rattle.block.specs.Kinds.{Told}
-use Rattle.files.specs.Files.{corridorCount, corridorIn, demandsCount, demandsIn, recordIn}
+use Rattle.files.specs.Files.{corridorCount, corridorIn, demandsCount, demandsIn, fileWidth, recordIn}
 
 -- a file has the blocks of m payload words
 abbrev pub Holds : ℕ → List ℕ → Type 0
@@ -23,20 +23,20 @@ pub record FilesFit (links steps : ℕ) (corridor demands recorded : List ℕ) :
   pub told : Told links steps
   pub corridorHolds : Holds (corridorCount links corridor) corridor
   pub demandsHold : Holds (demandsCount links steps demands) demands
-  pub recordHolds : Holds (recordLength recordWidth links steps) recorded
+  pub recordHolds : Holds (recordLength (fileWidth recorded) links steps) recorded
   pub ownLinks : payloadWord corridor 0 ≡ links
   pub ownSteps : payloadWord demands 0 ≡ steps
 
 -- the checker accepts the words in the files
 pub record Accepts (links steps : ℕ) (corridor demands recorded : List ℕ) : Type 0 where
   pub ranged : ranges (roadOf (corridorIn links corridor) (demandsIn links steps demands)) ≡ Accepted
-  pub judges : judged recordWidth (roadOf (corridorIn links corridor) (demandsIn links steps demands)) (recordIn recordWidth links steps recorded) ≡ Accepted
+  pub judges : judged (fileWidth recorded) (roadOf (corridorIn links corridor) (demandsIn links steps demands)) (recordIn (fileWidth recorded) links steps recorded) ≡ Accepted
 
 -- 2 to 5 and 7 to 13, in the words of the files
 abbrev pub wordsAnswer : ℕ → ℕ → List ℕ → List ℕ → List ℕ → Answer
 wordsAnswer links steps corridor demands recorded =
     orElse (ranges (roadOf (corridorIn links corridor) (demandsIn links steps demands)))
-    (judged recordWidth (roadOf (corridorIn links corridor) (demandsIn links steps demands)) (recordIn recordWidth links steps recorded))
+    (judged (fileWidth recorded) (roadOf (corridorIn links corridor) (demandsIn links steps demands)) (recordIn (fileWidth recorded) links steps recorded))
 
 -- the row of step k out of the demands' file, and that of state k out of a record's
 abbrev pub demandRowIn : ℕ → List ℕ → ℕ → List ℕ
@@ -50,19 +50,19 @@ abbrev pub stateRowIn : ℕ → ℕ → List ℕ → ℕ → List ℕ
 stateRowIn width links file k = payloadPart (k * (suc links * width)) (suc links * width) file
 
 -- the plan's row of step k
-abbrev pub planRowIn : List ℕ → ℕ → ℕ → List ℕ → List ℕ → ℕ → List ℕ
-planRowIn corridor links steps demands recorded k =
-    planRow recordWidth corridor links (demandRowIn links demands k) (downstreamIn links steps demands k) (stateRowIn recordWidth links recorded k)
+abbrev pub planRowIn : ℕ → List ℕ → ℕ → ℕ → List ℕ → List ℕ → ℕ → List ℕ
+planRowIn width corridor links steps demands recorded k =
+    planRow width corridor links (demandRowIn links demands k) (downstreamIn links steps demands k) (stateRowIn width links recorded k)
 
 -- ---- what is asked of the files once the corridor's words are unpacked
 
--- 1 to 5 are not due, and both files have their blocks
-pub record FilesReady (links steps : ℕ) (corridor demands recorded : List ℕ) : Type 0 where
-  pub ready : Ready recordWidth corridor (demandsIn links steps demands) (recordIn recordWidth links steps recorded) links steps
+-- 1 to 5 are not due, and both files have their blocks, the record's with `width` words for each node
+pub record FilesReady (width links steps : ℕ) (corridor demands recorded : List ℕ) : Type 0 where
+  pub ready : Ready width corridor (demandsIn links steps demands) (recordIn width links steps recorded) links steps
   pub demandsHold : Holds (demandsCount links steps demands) demands
-  pub recordHolds : Holds (recordLength recordWidth links steps) recorded
+  pub recordHolds : Holds (recordLength width links steps) recorded
 
 -- and 7 to 13 are not
-pub record FilesKept (links steps : ℕ) (corridor demands recorded : List ℕ) : Type 0 where
-  pub files : FilesReady links steps corridor demands recorded
-  pub judges : judged recordWidth (roadOf corridor (demandsIn links steps demands)) (recordIn recordWidth links steps recorded) ≡ Accepted
+pub record FilesKept (width links steps : ℕ) (corridor demands recorded : List ℕ) : Type 0 where
+  pub files : FilesReady width links steps corridor demands recorded
+  pub judges : judged width (roadOf corridor (demandsIn links steps demands)) (recordIn width links steps recorded) ≡ Accepted

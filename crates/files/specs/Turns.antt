@@ -22,8 +22,8 @@ unfoldable pub inTurn : ℕ → ℕ → List ℕ → List ℕ → List ℕ → L
 inTurn n k corridor demands recorded a b c rest =
     orElse (readAnswer (fileKind Corridor corridor) n k corridor (length a))
     (orElse (readAnswer (fileKind Demands demands) n k demands (length b))
-    (orElse (readAnswer Record n k recorded (length c))
-    (rest (wordsRead (fileKind Corridor corridor) n k corridor a) (wordsRead (fileKind Demands demands) n k demands b) (wordsRead Record n k recorded c))))
+    (orElse (readAnswer (fileKind Record recorded) n k recorded (length c))
+    (rest (wordsRead (fileKind Corridor corridor) n k corridor a) (wordsRead (fileKind Demands demands) n k demands b) (wordsRead (fileKind Record recorded) n k recorded c))))
 
 pub record Turns (n k : ℕ) (corridor demands recorded a b c : List ℕ) : Type 0 where
   pub checks : checkFiles n k corridor demands recorded ≡ orElse (sized (toldFits n k)) (inTurn n k corridor demands recorded a b c checkAnswer)
@@ -35,4 +35,4 @@ pub record Turns (n k : ℕ) (corridor demands recorded a b c : List ℕ) : Type
   -- the file that the writer makes of the converter's plan
   pub writes : (lent : List ℕ) → convertFiles n k corridor demands recorded (length lent) ≡ Accepted
       → planWritten n k corridor demands recorded lent
-      ≡ fileWritten Plan n k (converted (wordsRead (fileKind Corridor corridor) n k corridor a) (wordsRead (fileKind Demands demands) n k demands b) (wordsRead Record n k recorded c)) lent
+      ≡ fileWritten Plan n k (converted (wordsRead (fileKind Corridor corridor) n k corridor a) (wordsRead (fileKind Demands demands) n k demands b) (wordsRead (fileKind Record recorded) n k recorded c)) lent

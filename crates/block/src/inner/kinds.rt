@@ -4,7 +4,6 @@ ghost use mathlib.Core.Bool.{cond};
 ghost use Prim.Native.Nat.{_*_, _≤_};
 ghost use Rattle.block.specs.Kinds.{Told, kindNumber, listLength, ownAgrees, later, kindWord, saysLater, fileKind, listKind};
 use crate::Kind;
-use lists::inner::words;
 use payload::inner::words::word_at;
 
 // Word 0 of each block.
@@ -17,13 +16,14 @@ pub fn number_of(kind: Kind) -> u32
         Kind::Demands => 2,
         Kind::DemandsDownstream => 5,
         Kind::Record => 3,
+        Kind::RecordExits => 7,
         Kind::Plan => 4,
     }
 }
 
 // The words of rows of nodes of c words.
 fn row_words(rows: usize, nodes: usize, c: usize) -> usize
-    requires { ⌜ (1 ≤ rows) × (rows ≤ 1441) × (1 ≤ nodes) × (nodes ≤ 65) × (1 ≤ c) × (c ≤ 4) ⌝ }
+    requires { ⌜ (1 ≤ rows) × (rows ≤ 1441) × (1 ≤ nodes) × (nodes ≤ 65) × (1 ≤ c) × (c ≤ 5) ⌝ }
     ensures { λ r. ⌜ (r ≡ rows * (nodes * c)) × (1 ≤ r) × (r ≤ 1441 * (65 * c)) ⌝ }
 {
     rows * (nodes * c)
@@ -32,7 +32,7 @@ fn row_words(rows: usize, nodes: usize, c: usize) -> usize
 // The words of a list.
 pub fn length_of(kind: Kind, n: u32, k: u32) -> usize
     requires { ⌜ Told n k ⌝ }
-    ensures { λ r. ⌜ (r ≡ listLength kind n k) × (1 ≤ r) × (r ≤ 374662) ⌝ }
+    ensures { λ r. ⌜ (r ≡ listLength kind n k) × (1 ≤ r) × (r ≤ 468327) ⌝ }
 {
     let nodes = n as usize + 1;
     let steps = k as usize;
@@ -41,7 +41,8 @@ pub fn length_of(kind: Kind, n: u32, k: u32) -> usize
         Kind::CorridorDrop => 1 + nodes * 11,
         Kind::Demands => 1 + row_words(steps, nodes, 2),
         Kind::DemandsDownstream => 1 + row_words(steps, nodes, 2) + steps,
-        Kind::Record => row_words(steps + 1, nodes, words::RECORD_WIDTH) + 2,
+        Kind::Record => row_words(steps + 1, nodes, 4) + 2,
+        Kind::RecordExits => row_words(steps + 1, nodes, 5) + 2,
         Kind::Plan => row_words(steps, nodes, 2),
     }
 }
@@ -56,6 +57,7 @@ pub fn own_agrees(kind: Kind, n: u32, k: u32, word: u32) -> bool
         Kind::Demands => word == k,
         Kind::DemandsDownstream => word == k,
         Kind::Record => true,
+        Kind::RecordExits => true,
         Kind::Plan => true,
     }
 }
@@ -79,7 +81,8 @@ fn later(kind: Kind) -> Kind
         Kind::CorridorDrop => Kind::CorridorDrop,
         Kind::Demands => Kind::DemandsDownstream,
         Kind::DemandsDownstream => Kind::DemandsDownstream,
-        Kind::Record => Kind::Record,
+        Kind::Record => Kind::RecordExits,
+        Kind::RecordExits => Kind::RecordExits,
         Kind::Plan => Kind::Plan,
     }
 }

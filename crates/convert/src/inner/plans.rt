@@ -4,10 +4,10 @@ ghost use Prim.Native.Nat.{_+_, _*_, _≤_, _<_};
 ghost use lib.ListN.{length, set};
 ghost use Rattle.tables.specs.declared.Answer.the-variants.{Accepted};
 ghost use Rattle.settings.specs.Setting.{rateIn, limitIn};
-ghost use Rattle.lists.specs.Words.{linksOf, stepsOf, roadOf, recordWidth, planLength};
+ghost use Rattle.lists.specs.Words.{linksOf, stepsOf, roadOf, planLength, widthOf};
 ghost use Rattle.lists.specs.Fits.{RowFits, NodeIn};
 ghost use Rattle.convert.specs.Refusals.{judged};
-ghost use Rattle.convert.specs.Convert.{converted};
+ghost use Rattle.convert.specs.Convert.{convertedBy, converted};
 ghost use Rattle.convert.specs.Rows.{settingIn, planRow, RowsKept, SentKept, Ready};
 use lists::inner::scans;
 use lists::inner::words;
@@ -83,14 +83,14 @@ fn write_rows(
     links: usize,
     steps: usize,
     words: &[u32],
+    width: usize,
     plan: &mut [u32],
 )
-    requires { ⌜ Ready recordWidth (now corridor) (now demands) (now words) links steps ⌝ }
-    requires { ⌜ judged recordWidth (roadOf (now corridor) (now demands)) (now words) ≡ Accepted ⌝ }
+    requires { ⌜ Ready width (now corridor) (now demands) (now words) links steps ⌝ }
+    requires { ⌜ judged width (roadOf (now corridor) (now demands)) (now words) ≡ Accepted ⌝ }
     requires { ⌜ length (now plan) ≡ planLength links steps ⌝ }
-    ensures { λ _. ⌜ now (plan .exit) ≡ converted (now (corridor .entry)) (now (demands .entry)) (now (words .entry)) ⌝ }
+    ensures { λ _. ⌜ now (plan .exit) ≡ convertedBy width (now (corridor .entry)) (now (demands .entry)) (now (words .entry)) ⌝ }
 {
-    let width = words::RECORD_WIDTH;
     let narrow = (links + 1) * 2;
     let wide = scans::state_words(links, width);
     let mut k: usize = 0;
@@ -116,12 +116,13 @@ fn write_rows(
 
 // The plan of a record that is accepted.
 pub fn write_plan(corridor: &[u32], demands: &[u32], words: &[u32], plan: &mut [u32])
-    requires { ⌜ Ready recordWidth (now corridor) (now demands) (now words) (linksOf (now corridor)) (stepsOf (now demands)) ⌝ }
-    requires { ⌜ judged recordWidth (roadOf (now corridor) (now demands)) (now words) ≡ Accepted ⌝ }
+    requires { ⌜ Ready (widthOf (now corridor) (now demands) (length (now words))) (now corridor) (now demands) (now words) (linksOf (now corridor)) (stepsOf (now demands)) ⌝ }
+    requires { ⌜ judged (widthOf (now corridor) (now demands) (length (now words))) (roadOf (now corridor) (now demands)) (now words) ≡ Accepted ⌝ }
     requires { ⌜ length (now plan) ≡ planLength (linksOf (now corridor)) (stepsOf (now demands)) ⌝ }
     ensures { λ _. ⌜ now (plan .exit) ≡ converted (now (corridor .entry)) (now (demands .entry)) (now (words .entry)) ⌝ }
 {
     let links = words::links_of(corridor);
     let steps = words::steps_of(demands);
-    write_rows(corridor, demands, links, steps, words, plan);
+    let width = words::record_width(links, steps, words.len());
+    write_rows(corridor, demands, links, steps, words, width, plan);
 }

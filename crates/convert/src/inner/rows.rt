@@ -34,7 +34,8 @@ fn fixed_answer(
     let start = words::start_at(corridor, links, i);
     let state = words::state_at(row, width, i);
     let flows = words::flows_at(row, width, i);
-    let number = records::fixed_fault(links, steps, k, i, start, state, flows);
+    let said = words::exit_at(row, width, i);
+    let number = records::fixed_fault(links, steps, k, i, start, state, flows, said);
     refusal(number, k as u32, i as u32)
 }
 
@@ -83,9 +84,10 @@ fn step_answer(
 {
     let junction = words::junction_at(corridor, links, demand, downstream, row, width, i);
     let flows = words::flows_at(row, width, i);
+    let said = words::exit_at(row, width, i);
     let arrivals = words::arrivals_at(demand, i);
     let state = words::state_at(after, width, i);
-    let number = records::step_fault(junction, flows, Units(gained), arrivals, state);
+    let number = records::step_fault(junction, flows, said, Units(gained), arrivals, state);
     refusal(number, k as u32, i as u32)
 }
 

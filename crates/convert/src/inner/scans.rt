@@ -6,12 +6,13 @@ ghost use Prim.Native.Nat.{_≤_, _<_};
 ghost use lib.ListN.{length};
 ghost use lib.Dec.{eqb};
 ghost use Rattle.tables.specs.declared.Answer.the-variants.{Accepted};
-ghost use Rattle.tables.specs.Answer.{orElse, refusal};
+ghost use Rattle.tables.specs.Answer.{refusal};
 ghost use Rattle.road.specs.Run.{cost};
-ghost use Rattle.lists.specs.Words.{linksOf, stepsOf, roadOf, recordWidth, Width, traceOf, planLength, recordLength};
+ghost use Rattle.lists.specs.Words.{linksOf, stepsOf, roadOf, Width, traceOf, planLength, recordLength, widthOf};
 ghost use Rattle.lists.specs.Fits.{CorridorFits};
-ghost use Rattle.lists.specs.Refusals.{sizes, ranges};
+ghost use Rattle.lists.specs.Refusals.{recordSized, sizes};
 ghost use Rattle.convert.specs.Refusals.{costFault, judged};
+ghost use Rattle.convert.specs.Convert.{recordRefusal};
 ghost use Rattle.convert.specs.Rows.{bareRoad, fixedRowRefusal, fixedRefusal, stepRefusal, stepsRefusal, stateCostAt, Ready};
 use crate::inner::rows;
 use faults::inner::records;
@@ -23,14 +24,14 @@ use tables::refusal;
 
 // Whether N, K and the lengths of the lists are right, with `count` words in the record.
 pub fn record_fits(corridor: &[u32], demands: &[u32], count: usize) -> bool
-    ensures { λ r. ⌜ r ≡ sizes (now (corridor .entry)) (now (demands .entry)) && eqb count (recordLength recordWidth (linksOf (now (corridor .entry))) (stepsOf (now (demands .entry)))) ⌝ }
+    ensures { λ r. ⌜ r ≡ sizes (now (corridor .entry)) (now (demands .entry)) && recordSized (linksOf (now (corridor .entry))) (stepsOf (now (demands .entry))) count ⌝ }
 {
     if !scans::sizes(corridor, demands) {
         return false;
     }
     let links = words::links_of(corridor);
     let steps = words::steps_of(demands);
-    count == simulate::inner::answer::record_length(links, steps, words::RECORD_WIDTH)
+    scans::record_sized(links, steps, count)
 }
 
 // Whether a plan of `count` words has the length that N and K tell.
@@ -212,12 +213,15 @@ pub fn judged(corridor: &[u32], demands: &[u32], words: &[u32], width: usize) ->
 // The first refusal of 2 to 5 and of 7 to 13, where all lengths are right.
 pub fn contents(corridor: &[u32], demands: &[u32], words: &[u32]) -> Answer
     requires { ⌜ sizes (now corridor) (now demands) ≡ true ⌝ }
-    requires { ⌜ length (now words) ≡ recordLength recordWidth (linksOf (now corridor)) (stepsOf (now demands)) ⌝ }
-    ensures { λ r. ⌜ r ≡ orElse (ranges (roadOf (now (corridor .entry)) (now (demands .entry)))) (judged recordWidth (roadOf (now (corridor .entry)) (now (demands .entry))) (now (words .entry))) ⌝ }
+    requires { ⌜ length (now words) ≡ recordLength (widthOf (now corridor) (now demands) (length (now words))) (linksOf (now corridor)) (stepsOf (now demands)) ⌝ }
+    ensures { λ r. ⌜ r ≡ recordRefusal (now (corridor .entry)) (now (demands .entry)) (now (words .entry)) ⌝ }
 {
     let answer = scans::ranges(corridor, demands);
     if is_refused(answer) {
         return answer;
     }
-    judged(corridor, demands, words, words::RECORD_WIDTH)
+    let links = words::links_of(corridor);
+    let steps = words::steps_of(demands);
+    let width = words::record_width(links, steps, words.len());
+    judged(corridor, demands, words, width)
 }

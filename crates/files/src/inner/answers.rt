@@ -46,7 +46,8 @@ fn files_answer(n: u32, k: u32, corridor: &[u8], demands: &[u8], recorded: &[u8]
     if is_refused(second) {
         return second;
     }
-    calls::file_answer(Kind::Record, n, k, recorded)
+    let last = kinds::file_kind(Kind::Record, recorded);
+    calls::file_answer(last, n, k, recorded)
 }
 
 // The words in the files, with room for the corridor's.
@@ -67,7 +68,8 @@ fn contents(
     if is_refused(answer) {
         return answer;
     }
-    scans::judged(list, demands, links, steps, recorded)
+    let width = unpacked::record_width(recorded);
+    scans::judged(list, demands, links, steps, recorded, width)
 }
 
 // All that the checker refuses where N and K are good.

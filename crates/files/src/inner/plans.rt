@@ -2,15 +2,14 @@
 ghost use mathlib.Core.Path.{_≡_};
 ghost use Prim.Native.Nat.{_+_, _*_, _<_};
 ghost use lib.ListN.{length};
-ghost use Rattle.lists.specs.Words.{recordWidth, planLength};
-ghost use Rattle.convert.specs.Convert.{converted};
+ghost use Rattle.lists.specs.Words.{Width, planLength};
+ghost use Rattle.convert.specs.Convert.{convertedBy};
 ghost use Rattle.payload.specs.File.{payloadOf, putPayload};
 ghost use Rattle.payload.specs.Word.{Words};
 ghost use Rattle.files.specs.Files.{corridorCount, demandsIn, recordIn, planFile};
 ghost use Rattle.files.specs.Fits.{Holds, FilesFit, Accepts, FilesKept, planRowIn};
 use crate::inner::unpacked;
 use lists::inner::scans;
-use lists::inner::words;
 use payload::inner::place;
 use payload::inner::sealing;
 
@@ -21,21 +20,21 @@ fn put_step(
     links: usize,
     steps: usize,
     recorded: &[u8],
+    width: usize,
     k: usize,
     plan: &mut [u8],
 )
-    requires { ⌜ FilesKept links steps (now corridor) (now demands) (now recorded) ⌝ }
+    requires { ⌜ FilesKept width links steps (now corridor) (now demands) (now recorded) ⌝ }
     requires { ⌜ (k < steps) × Holds (planLength links steps) (now plan) ⌝ }
-    ensures { λ _. ⌜ (now (plan .exit) ≡ putPayload (now (plan .entry)) (k * ((links + 1) * 2)) (planRowIn (now (corridor .entry)) links steps (now (demands .entry)) (now (recorded .entry)) k)) × Words (planRowIn (now (corridor .entry)) links steps (now (demands .entry)) (now (recorded .entry)) k) ⌝ }
+    ensures { λ _. ⌜ (now (plan .exit) ≡ putPayload (now (plan .entry)) (k * ((links + 1) * 2)) (planRowIn width (now (corridor .entry)) links steps (now (demands .entry)) (now (recorded .entry)) k)) × Words (planRowIn width (now (corridor .entry)) links steps (now (demands .entry)) (now (recorded .entry)) k) ⌝ }
 {
-    let width = words::RECORD_WIDTH;
     let narrow = (links + 1) * 2;
     let wide = scans::state_words(links, width);
     let mut demand_room = [0u32; 130];
     let demand = &mut demand_room[..narrow];
-    let mut room = [0u32; 260];
+    let mut room = [0u32; 325];
     let row = &mut room[..wide];
-    unpacked::step_rows(demands, recorded, links, steps, k, demand, row);
+    unpacked::step_rows(demands, recorded, links, steps, width, k, demand, row);
     let mut plan_room = [0u32; 130];
     let out = &mut plan_room[..narrow];
     let downstream = unpacked::downstream(demands, links, steps, k);
@@ -50,15 +49,16 @@ fn put_steps(
     links: usize,
     steps: usize,
     recorded: &[u8],
+    width: usize,
     plan: &mut [u8],
 )
-    requires { ⌜ FilesKept links steps (now corridor) (now demands) (now recorded) ⌝ }
+    requires { ⌜ FilesKept width links steps (now corridor) (now demands) (now recorded) ⌝ }
     requires { ⌜ Holds (planLength links steps) (now plan) ⌝ }
-    ensures { λ _. ⌜ (payloadOf (planLength links steps) (now (plan .exit)) ≡ converted (now (corridor .entry)) (demandsIn links steps (now (demands .entry))) (recordIn recordWidth links steps (now (recorded .entry)))) × Holds (planLength links steps) (now (plan .exit)) ⌝ }
+    ensures { λ _. ⌜ (payloadOf (planLength links steps) (now (plan .exit)) ≡ convertedBy width (now (corridor .entry)) (demandsIn links steps (now (demands .entry))) (recordIn width links steps (now (recorded .entry)))) × Holds (planLength links steps) (now (plan .exit)) ⌝ }
 {
     let mut k: usize = 0;
     while k < steps {
-        put_step(corridor, demands, links, steps, recorded, k, plan);
+        put_step(corridor, demands, links, steps, recorded, width, k, plan);
         k += 1;
     }
 }
@@ -79,7 +79,8 @@ fn fill_plan(
     ensures { λ _. ⌜ now (plan .exit) ≡ planFile links steps (now (corridor .entry)) (now (demands .entry)) (now (recorded .entry)) ⌝ }
 {
     place::unpack(corridor, 0, list);
-    put_steps(list, demands, links, steps, recorded, plan);
+    let width = unpacked::record_width(recorded);
+    put_steps(list, demands, links, steps, recorded, width, plan);
     sealing::seal(4, scans::table_length(steps, (links + 1) * 2), plan);
 }
 

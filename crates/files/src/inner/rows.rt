@@ -4,7 +4,7 @@ ghost use Prim.Native.Nat.{suc, _≤_, _<_};
 ghost use Rattle.tables.specs.declared.Answer.the-variants.{Accepted};
 ghost use Rattle.tables.specs.First.{firstNode};
 ghost use Rattle.lists.specs.declared.inner.scans.NodeTest.the-variants.{Demand};
-ghost use Rattle.lists.specs.Words.{recordWidth, recordLength};
+ghost use Rattle.lists.specs.Words.{Width, recordLength};
 ghost use Rattle.lists.specs.Fits.{CorridorFits};
 ghost use Rattle.lists.specs.Scans.{nodeFaultAt};
 ghost use Rattle.convert.specs.Rows.{fixedRowRefusal, fixedRefusal, stepRefusal, stepsRefusal, stateCostAt};
@@ -12,7 +12,6 @@ ghost use Rattle.files.specs.Files.{demandsCount, demandsIn, recordIn};
 ghost use Rattle.files.specs.Fits.{Holds, FilesReady};
 use crate::inner::unpacked;
 use lists::inner::scans;
-use lists::inner::words;
 use tables::Answer;
 
 // The first node of step k with refusal 5.
@@ -30,16 +29,22 @@ pub fn demand_at(corridor: &[u32], links: usize, steps: usize, demands: &[u8], k
 }
 
 // The first node of state k with refusal 7.
-pub fn fixed_at(corridor: &[u32], links: usize, steps: usize, recorded: &[u8], k: usize) -> Answer
+pub fn fixed_at(
+    corridor: &[u32],
+    links: usize,
+    steps: usize,
+    recorded: &[u8],
+    width: usize,
+    k: usize,
+) -> Answer
     requires { ⌜ CorridorFits (now corridor) links ⌝ }
-    requires { ⌜ (steps ≤ 1440) × (k ≤ steps) × Holds (recordLength recordWidth links steps) (now recorded) ⌝ }
-    ensures { λ r. ⌜ r ≡ fixedRowRefusal recordWidth (now (corridor .entry)) links steps (recordIn recordWidth links steps (now (recorded .entry))) k ⌝ }
+    requires { ⌜ (steps ≤ 1440) × Width width × (k ≤ steps) × Holds (recordLength width links steps) (now recorded) ⌝ }
+    ensures { λ r. ⌜ r ≡ fixedRowRefusal width (now (corridor .entry)) links steps (recordIn width links steps (now (recorded .entry))) k ⌝ }
 {
-    let width = words::RECORD_WIDTH;
     let wide = scans::state_words(links, width);
-    let mut room = [0u32; 260];
+    let mut room = [0u32; 325];
     let row = &mut room[..wide];
-    unpacked::state_row(recorded, links, steps, k, row);
+    unpacked::state_row(recorded, links, steps, width, k, row);
     convert::inner::rows::fixed_row(corridor, links, steps, k, row, width)
 }
 
@@ -50,25 +55,25 @@ pub fn step_at(
     links: usize,
     steps: usize,
     recorded: &[u8],
+    width: usize,
     k: usize,
 ) -> Answer
-    requires { ⌜ FilesReady links steps (now corridor) (now demands) (now recorded) ⌝ }
-    requires { ⌜ fixedRefusal recordWidth (now corridor) links steps (recordIn recordWidth links steps (now recorded)) ≡ Accepted ⌝ }
-    requires { ⌜ stepsRefusal recordWidth (now corridor) (demandsIn links steps (now demands)) links (recordIn recordWidth links steps (now recorded)) k ≡ Accepted ⌝ }
+    requires { ⌜ FilesReady width links steps (now corridor) (now demands) (now recorded) ⌝ }
+    requires { ⌜ fixedRefusal width (now corridor) links steps (recordIn width links steps (now recorded)) ≡ Accepted ⌝ }
+    requires { ⌜ stepsRefusal width (now corridor) (demandsIn links steps (now demands)) links (recordIn width links steps (now recorded)) k ≡ Accepted ⌝ }
     requires { ⌜ k < steps ⌝ }
-    ensures { λ r. ⌜ r ≡ stepRefusal recordWidth (now (corridor .entry)) (demandsIn links steps (now (demands .entry))) links (recordIn recordWidth links steps (now (recorded .entry))) k ⌝ }
+    ensures { λ r. ⌜ r ≡ stepRefusal width (now (corridor .entry)) (demandsIn links steps (now (demands .entry))) links (recordIn width links steps (now (recorded .entry))) k ⌝ }
 {
-    let width = words::RECORD_WIDTH;
     let narrow = (links + 1) * 2;
     let wide = scans::state_words(links, width);
     let mut demand_room = [0u32; 130];
     let demand = &mut demand_room[..narrow];
-    let mut room = [0u32; 260];
+    let mut room = [0u32; 325];
     let row = &mut room[..wide];
-    unpacked::step_rows(demands, recorded, links, steps, k, demand, row);
-    let mut after_room = [0u32; 260];
+    unpacked::step_rows(demands, recorded, links, steps, width, k, demand, row);
+    let mut after_room = [0u32; 325];
     let after = &mut after_room[..wide];
-    unpacked::state_row(recorded, links, steps, k + 1, after);
+    unpacked::state_row(recorded, links, steps, width, k + 1, after);
     convert::inner::rows::step_row(
         k,
         corridor,
@@ -82,14 +87,13 @@ pub fn step_at(
 }
 
 // The vehicles and queues of state k + 1.
-pub fn cost_at(links: usize, steps: usize, recorded: &[u8], k: usize) -> u64
-    requires { ⌜ (links ≤ 64) × (steps ≤ 1440) × (k < steps) × Holds (recordLength recordWidth links steps) (now recorded) ⌝ }
-    ensures { λ r. ⌜ (r ≡ stateCostAt recordWidth links steps (recordIn recordWidth links steps (now (recorded .entry))) k) × (r ≤ 558345748350) ⌝ }
+pub fn cost_at(links: usize, steps: usize, recorded: &[u8], width: usize, k: usize) -> u64
+    requires { ⌜ (links ≤ 64) × (steps ≤ 1440) × Width width × (k < steps) × Holds (recordLength width links steps) (now recorded) ⌝ }
+    ensures { λ r. ⌜ (r ≡ stateCostAt width links steps (recordIn width links steps (now (recorded .entry))) k) × (r ≤ 558345748350) ⌝ }
 {
-    let width = words::RECORD_WIDTH;
     let wide = scans::state_words(links, width);
-    let mut room = [0u32; 260];
+    let mut room = [0u32; 325];
     let row = &mut room[..wide];
-    unpacked::state_row(recorded, links, steps, k + 1, row);
+    unpacked::state_row(recorded, links, steps, width, k + 1, row);
     simulate::inner::rows::row_cost(links, row, width)
 }

@@ -5,7 +5,7 @@ ghost use Prim.Native.Nat.{_≤_};
 ghost use Rattle.tables.specs.declared.Answer.the-variants.{Accepted};
 ghost use Rattle.tables.specs.Answer.{refusal};
 ghost use Rattle.road.specs.Run.{cost};
-ghost use Rattle.lists.specs.Words.{roadOf, recordWidth, traceOf, recordLength};
+ghost use Rattle.lists.specs.Words.{roadOf, Width, traceOf, recordLength};
 ghost use Rattle.lists.specs.Fits.{CorridorFits, DemandsFit};
 ghost use Rattle.lists.specs.Refusals.{ranges};
 ghost use Rattle.lists.specs.Scans.{demandsRefusal};
@@ -16,7 +16,6 @@ ghost use Rattle.files.specs.Fits.{Holds, FilesReady};
 use crate::inner::rows;
 use faults::inner::records;
 use lists::inner::scans;
-use lists::inner::words;
 use payload::inner::place;
 use tables::Answer;
 use tables::is_refused;
@@ -54,15 +53,15 @@ pub fn ranges(corridor: &[u32], links: usize, steps: usize, demands: &[u8]) -> A
 }
 
 // The first state and node with refusal 7.
-fn scan_fixed(corridor: &[u32], links: usize, steps: usize, recorded: &[u8]) -> Answer
+fn scan_fixed(corridor: &[u32], links: usize, steps: usize, recorded: &[u8], width: usize) -> Answer
     requires { ⌜ CorridorFits (now corridor) links ⌝ }
-    requires { ⌜ (steps ≤ 1440) × Holds (recordLength recordWidth links steps) (now recorded) ⌝ }
-    ensures { λ r. ⌜ r ≡ fixedRefusal recordWidth (now (corridor .entry)) links steps (recordIn recordWidth links steps (now (recorded .entry))) ⌝ }
+    requires { ⌜ (steps ≤ 1440) × Width width × Holds (recordLength width links steps) (now recorded) ⌝ }
+    ensures { λ r. ⌜ r ≡ fixedRefusal width (now (corridor .entry)) links steps (recordIn width links steps (now (recorded .entry))) ⌝ }
 {
     let states = steps + 1;
     let mut k: usize = 0;
     while k < states {
-        let answer = rows::fixed_at(corridor, links, steps, recorded, k);
+        let answer = rows::fixed_at(corridor, links, steps, recorded, width, k);
         if is_refused(answer) {
             return answer;
         }
@@ -78,14 +77,15 @@ fn scan_steps(
     links: usize,
     steps: usize,
     recorded: &[u8],
+    width: usize,
 ) -> Answer
-    requires { ⌜ FilesReady links steps (now corridor) (now demands) (now recorded) ⌝ }
-    requires { ⌜ fixedRefusal recordWidth (now corridor) links steps (recordIn recordWidth links steps (now recorded)) ≡ Accepted ⌝ }
-    ensures { λ r. ⌜ r ≡ stepsRefusal recordWidth (now (corridor .entry)) (demandsIn links steps (now (demands .entry))) links (recordIn recordWidth links steps (now (recorded .entry))) steps ⌝ }
+    requires { ⌜ FilesReady width links steps (now corridor) (now demands) (now recorded) ⌝ }
+    requires { ⌜ fixedRefusal width (now corridor) links steps (recordIn width links steps (now recorded)) ≡ Accepted ⌝ }
+    ensures { λ r. ⌜ r ≡ stepsRefusal width (now (corridor .entry)) (demandsIn links steps (now (demands .entry))) links (recordIn width links steps (now (recorded .entry))) steps ⌝ }
 {
     let mut k: usize = 0;
     while k < steps {
-        let answer = rows::step_at(corridor, demands, links, steps, recorded, k);
+        let answer = rows::step_at(corridor, demands, links, steps, recorded, width, k);
         if is_refused(answer) {
             return answer;
         }
@@ -95,26 +95,26 @@ fn scan_steps(
 }
 
 // The cost of states 1..K.
-fn total_cost(links: usize, steps: usize, recorded: &[u8]) -> u64
-    requires { ⌜ (links ≤ 64) × (steps ≤ 1440) × Holds (recordLength recordWidth links steps) (now recorded) ⌝ }
-    ensures { λ r. ⌜ r ≡ cost (bareRoad [] links steps) (traceOf recordWidth (bareRoad [] links steps) (recordIn recordWidth links steps (now (recorded .entry)))) ⌝ }
+fn total_cost(links: usize, steps: usize, recorded: &[u8], width: usize) -> u64
+    requires { ⌜ (links ≤ 64) × (steps ≤ 1440) × Width width × Holds (recordLength width links steps) (now recorded) ⌝ }
+    ensures { λ r. ⌜ r ≡ cost (bareRoad [] links steps) (traceOf width (bareRoad [] links steps) (recordIn width links steps (now (recorded .entry)))) ⌝ }
 {
     let mut total: u64 = 0;
     let mut k: usize = 0;
     while k < steps {
-        total += rows::cost_at(links, steps, recorded, k);
+        total += rows::cost_at(links, steps, recorded, width, k);
         k += 1;
     }
     total
 }
 
 // Refusal 13.
-fn scan_cost(links: usize, steps: usize, recorded: &[u8]) -> Answer
-    requires { ⌜ (links ≤ 64) × (steps ≤ 1440) × Holds (recordLength recordWidth links steps) (now recorded) ⌝ }
-    ensures { λ r. ⌜ r ≡ refusal (costFault recordWidth (bareRoad [] links steps) (recordIn recordWidth links steps (now (recorded .entry)))) 0 0 ⌝ }
+fn scan_cost(links: usize, steps: usize, recorded: &[u8], width: usize) -> Answer
+    requires { ⌜ (links ≤ 64) × (steps ≤ 1440) × Width width × Holds (recordLength width links steps) (now recorded) ⌝ }
+    ensures { λ r. ⌜ r ≡ refusal (costFault width (bareRoad [] links steps) (recordIn width links steps (now (recorded .entry)))) 0 0 ⌝ }
 {
-    let total = total_cost(links, steps, recorded);
-    let wide = scans::state_words(links, words::RECORD_WIDTH);
+    let total = total_cost(links, steps, recorded, width);
+    let wide = scans::state_words(links, width);
     let at = scans::table_length(steps + 1, wide);
     let low = place::word_of(recorded, at);
     let high = place::word_of(recorded, at + 1);
@@ -128,17 +128,18 @@ pub fn judged(
     links: usize,
     steps: usize,
     recorded: &[u8],
+    width: usize,
 ) -> Answer
-    requires { ⌜ FilesReady links steps (now corridor) (now demands) (now recorded) ⌝ }
-    ensures { λ r. ⌜ r ≡ judged recordWidth (roadOf (now (corridor .entry)) (demandsIn links steps (now (demands .entry)))) (recordIn recordWidth links steps (now (recorded .entry))) ⌝ }
+    requires { ⌜ FilesReady width links steps (now corridor) (now demands) (now recorded) ⌝ }
+    ensures { λ r. ⌜ r ≡ judged width (roadOf (now (corridor .entry)) (demandsIn links steps (now (demands .entry)))) (recordIn width links steps (now (recorded .entry))) ⌝ }
 {
-    let fixed = scan_fixed(corridor, links, steps, recorded);
+    let fixed = scan_fixed(corridor, links, steps, recorded, width);
     if is_refused(fixed) {
         return fixed;
     }
-    let step = scan_steps(corridor, demands, links, steps, recorded);
+    let step = scan_steps(corridor, demands, links, steps, recorded, width);
     if is_refused(step) {
         return step;
     }
-    scan_cost(links, steps, recorded)
+    scan_cost(links, steps, recorded, width)
 }

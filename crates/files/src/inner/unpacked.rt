@@ -2,13 +2,12 @@
 ghost use mathlib.Core.Path.{_≡_};
 ghost use Prim.Native.Nat.{suc, _+_, _*_, _≤_, _<_};
 ghost use lib.ListN.{length};
-ghost use Rattle.lists.specs.Words.{recordWidth, recordLength};
-ghost use Rattle.files.specs.Files.{corridorCount, demandsCount};
+ghost use Rattle.lists.specs.Words.{Width, recordLength};
+ghost use Rattle.files.specs.Files.{corridorCount, demandsCount, fileWidth};
 ghost use Rattle.files.specs.Fits.{Holds, demandRowIn, downstreamIn, stateRowIn};
 use block::Kind;
 use block::inner::kinds;
 use lists::inner::scans;
-use lists::inner::words;
 use payload::inner::place;
 use road::Units;
 
@@ -21,6 +20,16 @@ pub fn corridor_count(links: usize, corridor: &[u8]) -> usize
         return 1 + (links + 1) * 11;
     }
     1 + (links + 1) * 9
+}
+
+// How many words a node has in the record of a file.
+pub fn record_width(recorded: &[u8]) -> usize
+    ensures { λ r. ⌜ (r ≡ fileWidth (now (recorded .entry))) × Width r ⌝ }
+{
+    if kinds::says_later(Kind::Record, recorded) {
+        return 5;
+    }
+    4
 }
 
 // The demands of step k.
@@ -46,12 +55,19 @@ pub fn downstream(demands: &[u8], links: usize, steps: usize, k: usize) -> Units
 }
 
 // State k of a record, and the flows of step k.
-pub fn state_row(recorded: &[u8], links: usize, steps: usize, k: usize, row: &mut [u32])
-    requires { ⌜ (links ≤ 64) × (steps ≤ 1440) × (k ≤ steps) × Holds (recordLength recordWidth links steps) (now recorded) ⌝ }
-    requires { ⌜ length (now row) ≡ suc links * recordWidth ⌝ }
-    ensures { λ _. ⌜ now (row .exit) ≡ stateRowIn recordWidth links (now (recorded .entry)) k ⌝ }
+pub fn state_row(
+    recorded: &[u8],
+    links: usize,
+    steps: usize,
+    width: usize,
+    k: usize,
+    row: &mut [u32],
+)
+    requires { ⌜ (links ≤ 64) × (steps ≤ 1440) × Width width × (k ≤ steps) × Holds (recordLength width links steps) (now recorded) ⌝ }
+    requires { ⌜ length (now row) ≡ suc links * width ⌝ }
+    ensures { λ _. ⌜ now (row .exit) ≡ stateRowIn width links (now (recorded .entry)) k ⌝ }
 {
-    let wide = scans::state_words(links, words::RECORD_WIDTH);
+    let wide = scans::state_words(links, width);
     let at = scans::row_at(k, wide, steps + 1);
     place::unpack(recorded, at, row);
 }
@@ -62,15 +78,16 @@ pub fn step_rows(
     recorded: &[u8],
     links: usize,
     steps: usize,
+    width: usize,
     k: usize,
     demand: &mut [u32],
     row: &mut [u32],
 )
-    requires { ⌜ (links ≤ 64) × (steps ≤ 1440) × (k < steps) ⌝ }
-    requires { ⌜ Holds (demandsCount links steps (now demands)) (now demands) × Holds (recordLength recordWidth links steps) (now recorded) ⌝ }
-    requires { ⌜ (length (now demand) ≡ (links + 1) * 2) × (length (now row) ≡ suc links * recordWidth) ⌝ }
-    ensures { λ _. ⌜ (now (demand .exit) ≡ demandRowIn links (now (demands .entry)) k) × (now (row .exit) ≡ stateRowIn recordWidth links (now (recorded .entry)) k) ⌝ }
+    requires { ⌜ (links ≤ 64) × (steps ≤ 1440) × Width width × (k < steps) ⌝ }
+    requires { ⌜ Holds (demandsCount links steps (now demands)) (now demands) × Holds (recordLength width links steps) (now recorded) ⌝ }
+    requires { ⌜ (length (now demand) ≡ (links + 1) * 2) × (length (now row) ≡ suc links * width) ⌝ }
+    ensures { λ _. ⌜ (now (demand .exit) ≡ demandRowIn links (now (demands .entry)) k) × (now (row .exit) ≡ stateRowIn width links (now (recorded .entry)) k) ⌝ }
 {
     demand_row(demands, links, steps, k, demand);
-    state_row(recorded, links, steps, k, row);
+    state_row(recorded, links, steps, width, k, row);
 }

@@ -10,7 +10,7 @@ mul-result : tie.Need-mul-result
 mul-result c = let a = c .args in let p = c .pre in omega (arith, mul-le-mul (p .3) (p .5))
 
 mul-result-2 : tie.Need-mul-result-2
-mul-result-2 c = let a = c .args in let p = c .pre in omega (arith, words-high (a .rows) (a .nodes) (a .c) 4 (p .1) (p .3) (p .5))
+mul-result-2 c = let a = c .args in let p = c .pre in omega (arith, words-high (a .rows) (a .nodes) (a .c) 5 (p .1) (p .3) (p .5))
 
 returns : tie.Need-returns
 returns c = let a = c .args in let p = c .pre in (refl, words-low (a .rows) (a .nodes) (a .c) (p .0) (p .2) (p .4), words-high (a .rows) (a .nodes) (a .c) (a .c) (p .1) (p .3) (omega arith))

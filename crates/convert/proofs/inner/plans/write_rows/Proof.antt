@@ -10,10 +10,10 @@ use Rattle.convert.proofs.inner.plans.write_rows.Statement.{statement}
 use Rattle.convert.proofs.inner.plans.write_rows.Tie as tie
 
 abbrev Inv-loop : tie.InvT-loop
-Inv-loop corridor demands links steps words plan₀ width narrow wide k₀ plan k = PlanRows corridor demands words links steps k plan₀ plan
+Inv-loop corridor demands links steps words width plan₀ narrow wide k₀ plan k = PlanRows width corridor demands words links steps k plan₀ plan
 
 abbrev μ-loop : tie.MeasureT-loop
-μ-loop corridor demands links steps words plan₀ width narrow wide k₀ plan k = steps - k
+μ-loop corridor demands links steps words width plan₀ narrow wide k₀ plan k = steps - k
 
 from-inside : (c : tie.After-downstream-at Inv-loop μ-loop) → c .before .before .row-at2 .result + c .before .before .before .before .before .before .state-words .result ≤ length (c .before .before .before .before .before .before .before .before .before .before .before .args .words .now)
 from-inside c =
@@ -42,7 +42,7 @@ loop-again c =
     let l = c .before .before .before .before .before .before .before .before .before .before in
     let w = c .before .before .before .before .before .before .before .before .before .before .before in
     let k = w .before .before .before .before .before in
-    plan-more _ _ _ _ _ (k .pre .0) _ _ _ _ _ _ _ _ (l .loop .inv) (omega arith) (from .before .row-at .ensures .0) (from .row-at2 .ensures .0) (w .state-words .ensures .0)
+    plan-more _ _ _ _ _ _ (k .pre .0) _ _ _ _ _ _ _ _ (l .loop .inv) (omega arith) (from .before .row-at .ensures .0) (from .row-at2 .ensures .0) (w .state-words .ensures .0)
     (c .before .before .before .before .before .downstream-at .ensures) (c .before .before .plan-row .ensures)
 
 pub write-rows-spec : {M : Type 1} → statement M

@@ -8,12 +8,14 @@ use Rattle.convert.proofs.inner.rows.fixed_answer.Tie as tie
 returns : tie.Need-returns
 returns c =
     refusal-told _ _ _ _ _ (c .refusal .ensures)
-    (fixed-number-is _ _ _ _ _ _ _ _ _ _ _ (c .before .fixed-fault .ensures) (c .before .before .before .before .start-at .ensures) (c .before .before .before .state-at .ensures) (c .before .before .flows-at .ensures))
+    (fixed-number-is _ _ _ _ _ _ _ _ _ _ _ _ (c .before .fixed-fault .ensures) (c .before .before .before .before .before .start-at .ensures) (c .before .before .before .before .state-at .ensures)
+    (c .before .before .before .flows-at .ensures) (c .before .before .exit-at .ensures))
 
 pub fixed-answer-spec : {M : Type 1} → statement M
 fixed-answer-spec =
     tie.close
     (tie.spec
+    (λ c κs. search needs)
     (λ c κs. search needs)
     (λ c κs. search needs)
     (λ c κs. search needs)

@@ -18,7 +18,7 @@ few c =
 
 returns-2 : tie.Need-returns-2
 returns-2 c =
-    record-count _ _ _ _ _ _ (told-true _ _ (c .before .before .before .before .sizes .ensures) (c .before .before .before .if1 .left)) (c .before .before .links-of .ensures) (c .before .steps-of .ensures) (c .record-length .ensures)
+    record-count _ _ _ _ _ _ (told-true _ _ (c .before .before .before .before .sizes .ensures) (c .before .before .before .if1 .left)) (c .before .before .links-of .ensures) (c .before .steps-of .ensures) (c .record-sized .ensures)
 
 pub record-fits-spec : {M : Type 1} → statement M
 record-fits-spec =
@@ -28,5 +28,5 @@ record-fits-spec =
     returns
     (λ c κs. search needs)
     (λ c κs. search needs)
-    (λ c κs. (few c .0, few c .1, search needs))
+    (λ c κs. few c)
     returns-2)

@@ -21,17 +21,21 @@ returns c =
 
 judged-requires : tie.Need-judged-requires
 judged-requires c κs =
-    let u = c .before .before .before .before .before .before .before in
+    let w = c .before in
+    let r = w .before .before .before in
+    let u = r .before .before .before .before in
     let k = u .before .before .before .before .before .before in
-    list-files _ _ _ _ _ (k .pre .0) _ _ (u .unpack .ensures) (k .pre .1) _ (c .before .before .before .ranges .ensures)
-    (told-accepted (c .before .before .before .ranges .result) _ (c .before .before .is-refused .ensures) (c .before .if1 .left))
+    list-files _ _ _ _ _ (k .pre .0) _ _ (u .unpack .ensures) (k .pre .1) _ (r .ranges .ensures)
+    (told-accepted (r .ranges .result) _ (w .before .before .is-refused .ensures) (w .before .if1 .left)) _ (w .record-width .ensures .0)
 
 returns-2 : tie.Need-returns-2
 returns-2 c =
-    let u = c .before .before .before .before .before .before .before .before in
+    let w = c .before .before in
+    let r = w .before .before .before in
+    let u = r .before .before .before .before in
     let k = u .before .before .before .before .before .before in
-    contents-next _ _ _ _ _ (k .pre .0) _ _ (u .unpack .ensures) (k .pre .1) _ _ (c .before .before .before .before .ranges .ensures)
-    (told-accepted (c .before .before .before .before .ranges .result) _ (c .before .before .before .is-refused .ensures) (c .before .before .if1 .left)) (c .judged .ensures)
+    contents-next _ _ _ _ _ (k .pre .0) _ _ (u .unpack .ensures) (k .pre .1) _ _ (r .ranges .ensures)
+    (told-accepted (r .ranges .result) _ (w .before .before .is-refused .ensures) (w .before .if1 .left)) _ (w .record-width .ensures .0) (c .judged .ensures)
 
 pub contents-spec : {M : Type 1} → statement M
 contents-spec =
@@ -42,6 +46,7 @@ contents-spec =
     (λ c κs. search needs)
     (λ c. search needs)
     returns
+    (λ c κs. search needs)
     judged-requires
     (λ c. search needs)
     returns-2)

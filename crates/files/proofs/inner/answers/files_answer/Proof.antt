@@ -18,4 +18,5 @@ files-answer-spec =
     (λ c κs. search needs)
     (λ c. search (files-second, told-refused, told-accepted))
     (λ c κs. search needs)
+    (λ c κs. search needs)
     (λ c. search (files-third, told-accepted)))

@@ -14,7 +14,7 @@ step-rows-requires : tie.Need-step-rows-requires
 step-rows-requires c κs =
     let k = c .before .before .before .before .before .before .before .before .before in
     let files = k .pre .0 .files in (
-      (files .ready .corridorFits .few, files .ready .demandsFit .short, k .pre .1 .0),
+      (files .ready .corridorFits .few, files .ready .demandsFit .short, files .ready .wide, k .pre .1 .0),
       ((files .demandsHold, files .recordHolds), (simp length-take (omega arith), simp length-take (omega (arith, c .before .before .before .before .state-words .ensures)))),
     )
 
@@ -31,12 +31,12 @@ plan-row-requires c κs =
     )
 
 put-requires : tie.Need-put-requires
-put-requires c κs = put-fits _ _ _ _ _ _ _ _ _ (c .before .before .before .before .before .before .before .plan-row .ensures) (c .before .before .before .before .before .before .before .before .before .before .before .before .before .before .before .before .before .before .before .before .before .before .before .before .before .before .before .pre .1 .1) (c .before .row-at .ensures .1)
+put-requires c κs = put-fits _ _ _ _ _ _ _ _ _ _ (c .before .before .before .before .before .before .before .plan-row .ensures) (c .before .before .before .before .before .before .before .before .before .before .before .before .before .before .before .before .before .before .before .before .before .before .before .before .before .before .before .pre .1 .1) (c .before .row-at .ensures .1)
 
 returns : tie.Need-returns
 returns c =
     let rows = c .before .before .before .before .before .before .before .before .before .before .before .before .before .before .before .before .before .before .before .before .before .step-rows .ensures in
-    put-told _ _ _ _ _ _ _ _ _ _ _ _ (c .before .before .before .before .before .before .before .before .before .before .before .plan-row .ensures) (c .before .before .before .before .before .before .before .before .before .before .before .before .before .before .before .downstream .ensures) (rows .0) (rows .1) (c .before .before .before .before .before .row-at .ensures .0) (c .before .before .before .put .ensures)
+    put-told _ _ _ _ _ _ _ _ _ _ _ _ _ (c .before .before .before .before .before .before .before .before .before .before .before .plan-row .ensures) (c .before .before .before .before .before .before .before .before .before .before .before .before .before .before .before .downstream .ensures) (rows .0) (rows .1) (c .before .before .before .before .before .row-at .ensures .0) (c .before .before .before .put .ensures)
 
 pub put-step-spec : {M : Type 1} → statement M
 put-step-spec =

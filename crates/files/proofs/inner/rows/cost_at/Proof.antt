@@ -2,18 +2,17 @@
 use native.Mathlib.Omega.{arith}
 use lib.ListN.{length-take}
 use borrow.Author.Needs.{needs}
-use Rattle.lists.proofs.Words.{record-wide}
 use Rattle.files.proofs.Rows.{state-length, cost-found}
 use Rattle.files.proofs.inner.rows.cost_at.Statement.{statement}
 use Rattle.files.proofs.inner.rows.cost_at.Tie as tie
 
 row-cost-requires : tie.Need-row-cost-requires
-row-cost-requires c κs = (state-length _ _ _ _ _ (c .before .before .before .state-row .ensures), record-wide, c .before .before .before .before .before .before .before .before .pre .0)
+row-cost-requires c κs = (state-length _ _ _ _ _ (c .before .before .before .state-row .ensures), c .before .before .before .before .before .before .before .before .pre .2, c .before .before .before .before .before .before .before .before .pre .0)
 
 returns : tie.Need-returns
 returns c =
     let e = c .before .row-cost .ensures in
-    (cost-found _ record-wide _ _ _ _ _ (c .before .before .before .before .before .state-row .ensures) (c .before .before .before .before .before .before .before .before .before .before .pre .2) _ (e .0), e .1)
+    (cost-found _ (c .before .before .before .before .before .before .before .before .before .before .pre .2) _ _ _ _ _ (c .before .before .before .before .before .state-row .ensures) (c .before .before .before .before .before .before .before .before .before .before .pre .3) _ (e .0), e .1)
 
 pub cost-at-spec : {M : Type 1} → statement M
 cost-at-spec =

@@ -2,7 +2,6 @@
 use native.Mathlib.Omega.{arith}
 use lib.ListN.{length-take}
 use borrow.Author.Needs.{needs}
-use Rattle.lists.proofs.Words.{record-wide}
 use Rattle.files.proofs.Rows.{state-length, fixed-found}
 use Rattle.files.proofs.inner.rows.fixed_at.Statement.{statement}
 use Rattle.files.proofs.inner.rows.fixed_at.Tie as tie
@@ -10,10 +9,10 @@ use Rattle.files.proofs.inner.rows.fixed_at.Tie as tie
 fixed-row-requires : tie.Need-fixed-row-requires
 fixed-row-requires c κs =
     let k = c .before .before .before .before .before .before .before .before .before in
-    (k .pre .0, (omega (arith, k .pre .1), state-length _ _ _ _ _ (c .before .before .before .state-row .ensures), record-wide))
+    (k .pre .0, (omega (arith, k .pre .1), state-length _ _ _ _ _ (c .before .before .before .state-row .ensures), k .pre .1 .1))
 
 returns : tie.Need-returns
-returns c = fixed-found _ record-wide _ _ _ _ _ (c .before .before .before .before .before .state-row .ensures) (c .before .before .before .before .before .before .before .before .before .before .before .pre .1 .1) _ _ (c .before .fixed-row .ensures)
+returns c = fixed-found _ (c .before .before .before .before .before .before .before .before .before .before .before .pre .1 .1) _ _ _ _ _ (c .before .before .before .before .before .state-row .ensures) (c .before .before .before .before .before .before .before .before .before .before .before .pre .1 .2) _ _ (c .before .fixed-row .ensures)
 
 pub fixed-at-spec : {M : Type 1} → statement M
 fixed-at-spec =

@@ -13,7 +13,7 @@ step-rows-requires : tie.Need-step-rows-requires
 step-rows-requires c κs =
     let k = c .before .before .before .before .before .before .before .before in
     let files = k .pre .0 in (
-      (files .ready .corridorFits .few, files .ready .demandsFit .short, k .pre .1 .1 .1),
+      (files .ready .corridorFits .few, files .ready .demandsFit .short, files .ready .wide, k .pre .1 .1 .1),
       ((files .demandsHold, files .recordHolds), (simp length-take (omega arith), simp length-take (omega (arith, c .before .before .before .before .state-words .ensures)))),
     )
 
@@ -21,7 +21,7 @@ state-row-requires : tie.Need-state-row-requires
 state-row-requires c κs =
     let k = c .before .before .before .before .before .before .before .before .before .before .before .before .before .before .before in
     let files = k .pre .0 in
-    ((files .ready .corridorFits .few, files .ready .demandsFit .short, omega (arith, k .pre .1 .1 .1), files .recordHolds), simp length-take (omega (arith, c .before .before .before .before .before .before .before .before .before .before .before .state-words .ensures)))
+    ((files .ready .corridorFits .few, files .ready .demandsFit .short, files .ready .wide, omega (arith, k .pre .1 .1 .1), files .recordHolds), simp length-take (omega (arith, c .before .before .before .before .before .before .before .before .before .before .before .state-words .ensures)))
 
 step-row-requires : tie.Need-step-row-requires
 step-row-requires c κs =

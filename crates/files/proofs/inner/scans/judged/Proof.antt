@@ -8,14 +8,14 @@ use Rattle.files.proofs.inner.scans.judged.Statement.{statement}
 use Rattle.files.proofs.inner.scans.judged.Tie as tie
 
 scan-fixed-requires : tie.Need-scan-fixed-requires
-scan-fixed-requires c κs = let files = c .before .before .before .pre in (files .ready .corridorFits, (files .ready .demandsFit .short, files .recordHolds))
+scan-fixed-requires c κs = let files = c .before .before .before .pre in (files .ready .corridorFits, (files .ready .demandsFit .short, files .ready .wide, files .recordHolds))
 
 scan-steps-requires : tie.Need-scan-steps-requires
 scan-steps-requires c κs =
     (c .before .before .before .before .before .before .pre, told-accepts _ _ (c .before .before .scan-fixed .ensures) (told-accepted (c .before .before .scan-fixed .result) _ (c .before .is-refused .ensures) (c .if1 .left)))
 
 scan-cost-requires : tie.Need-scan-cost-requires
-scan-cost-requires c κs = let files = c .before .before .before .before .before .before .before .before .before .pre in (files .ready .corridorFits .few, files .ready .demandsFit .short, files .recordHolds)
+scan-cost-requires c κs = let files = c .before .before .before .before .before .before .before .before .before .pre in (files .ready .corridorFits .few, files .ready .demandsFit .short, files .ready .wide, files .recordHolds)
 
 pub judged-spec : {M : Type 1} → statement M
 judged-spec =

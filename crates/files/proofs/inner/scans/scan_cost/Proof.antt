@@ -6,14 +6,14 @@ use Rattle.files.proofs.inner.scans.scan_cost.Statement.{statement}
 use Rattle.files.proofs.inner.scans.scan_cost.Tie as tie
 
 word-of-requires : tie.Need-word-of-requires
-word-of-requires c κs = omega (arith, cost-inside _ _ _ _ (c .before .before .before .before .args .recorded .now) (c .table-length .ensures) (c .before .state-words .ensures .0) (c .before .before .before .before .pre .2))
+word-of-requires c κs = omega (arith, cost-inside _ _ _ _ _ (c .before .before .before .before .args .recorded .now) (c .table-length .ensures) (c .before .state-words .ensures .0) (c .before .before .before .before .pre .3))
 
 word-of-requires-2 : tie.Need-word-of-requires-2
-word-of-requires-2 c κs = omega (arith, cost-inside _ _ _ _ (c .before .before .before .before .before .args .recorded .now) (c .before .table-length .ensures) (c .before .before .state-words .ensures .0) (c .before .before .before .before .before .pre .2))
+word-of-requires-2 c κs = omega (arith, cost-inside _ _ _ _ _ (c .before .before .before .before .before .args .recorded .now) (c .before .table-length .ensures) (c .before .before .state-words .ensures .0) (c .before .before .before .before .before .pre .3))
 
 returns : tie.Need-returns
 returns c =
-    cost-read _ _ _ _ _ _ _ _ _ _ (c .before .before .before .word-of .ensures) (c .before .before .word-of2 .ensures) (c .before .total-fault .ensures) (c .before .before .before .before .table-length .ensures) (c .before .before .before .before .before .state-words .ensures .0)
+    cost-read _ _ _ _ _ _ _ _ _ _ _ (c .before .before .before .word-of .ensures) (c .before .before .word-of2 .ensures) (c .before .total-fault .ensures) (c .before .before .before .before .table-length .ensures) (c .before .before .before .before .before .state-words .ensures .0)
     (c .before .before .before .before .before .before .total-cost .ensures) (c .refusal .ensures)
 
 pub scan-cost-spec : {M : Type 1} → statement M
@@ -25,7 +25,7 @@ scan-cost-spec =
     (λ c. search needs)
     (λ c κs. search needs)
     word-of-requires
-    (λ c. omega (arith, cost-inside _ _ _ _ (c .before .before .before .before .before .args .recorded .now) (c .before .table-length .ensures) (c .before .before .state-words .ensures .0) (c .before .before .before .before .before .pre .2)))
+    (λ c. omega (arith, cost-inside _ _ _ _ _ (c .before .before .before .before .before .args .recorded .now) (c .before .table-length .ensures) (c .before .before .state-words .ensures .0) (c .before .before .before .before .before .pre .3)))
     word-of-requires-2
     (λ c κs. search needs)
     (λ c κs. search needs)

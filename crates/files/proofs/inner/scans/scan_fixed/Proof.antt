@@ -4,7 +4,6 @@ use native.Mathlib.Omega.{arith}
 use borrow.Author.Needs.{needs}
 use Rattle.tables.proofs.First.{Passed}
 use Rattle.tables.proofs.Sets.{scans}
-use Rattle.lists.specs.Words.{recordWidth}
 use Rattle.lists.proofs.Scans.{nodes-stop, nodes-ended}
 use Rattle.convert.specs.Rows.{fixedRowRefusal}
 use Rattle.files.specs.Files.{recordIn}
@@ -12,10 +11,10 @@ use Rattle.files.proofs.inner.scans.scan_fixed.Statement.{statement}
 use Rattle.files.proofs.inner.scans.scan_fixed.Tie as tie
 
 abbrev Inv-loop : tie.InvT-loop
-Inv-loop corridor links steps recorded states k₀ k = Passed k states (fixedRowRefusal recordWidth corridor links steps (recordIn recordWidth links steps recorded))
+Inv-loop corridor links steps recorded width states k₀ k = Passed k states (fixedRowRefusal width corridor links steps (recordIn width links steps recorded))
 
 abbrev μ-loop : tie.MeasureT-loop
-μ-loop corridor links steps recorded states k₀ k = states - k
+μ-loop corridor links steps recorded width states k₀ k = states - k
 
 pub scan-fixed-spec : {M : Type 1} → statement M
 scan-fixed-spec =
@@ -25,7 +24,7 @@ scan-fixed-spec =
     μ-loop
     (λ c. search needs)
     (λ c. search scans)
-    (λ c κs. (search needs, (omega arith, omega arith, search needs)))
+    (λ c κs. (search needs, (omega arith, search needs, omega arith, search needs)))
     (λ c κs. search needs)
     (λ c. search (scans, nodes-stop))
     (λ c. search needs)

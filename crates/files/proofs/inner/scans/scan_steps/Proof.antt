@@ -4,18 +4,17 @@ use native.Mathlib.Omega.{arith}
 use borrow.Author.Needs.{needs}
 use Rattle.tables.proofs.First.{Passed}
 use Rattle.tables.proofs.Sets.{scans}
-use Rattle.lists.specs.Words.{recordWidth}
 use Rattle.convert.specs.Rows.{stepRefusal}
 use Rattle.files.specs.Files.{demandsIn, recordIn}
 use Rattle.files.proofs.inner.scans.scan_steps.Statement.{statement}
 use Rattle.files.proofs.inner.scans.scan_steps.Tie as tie
 
 abbrev Inv-loop : tie.InvT-loop
-Inv-loop corridor demands links steps recorded k₀ k =
-    Passed k steps (stepRefusal recordWidth corridor (demandsIn links steps demands) links (recordIn recordWidth links steps recorded))
+Inv-loop corridor demands links steps recorded width k₀ k =
+    Passed k steps (stepRefusal width corridor (demandsIn links steps demands) links (recordIn width links steps recorded))
 
 abbrev μ-loop : tie.MeasureT-loop
-μ-loop corridor demands links steps recorded k₀ k = steps - k
+μ-loop corridor demands links steps recorded width k₀ k = steps - k
 
 step-at-requires : tie.Need-step-at-requires Inv-loop μ-loop
 step-at-requires c κs =

@@ -3,7 +3,6 @@ use Prim.Native.Nat.{_-_}
 use borrow.Author.Needs.{needs}
 use Rattle.tables.proofs.Sum.{Summed}
 use Rattle.tables.proofs.Sets.{sums}
-use Rattle.lists.specs.Words.{recordWidth}
 use Rattle.convert.specs.Rows.{stateCostAt}
 use Rattle.convert.proofs.Answers.{cost-summed}
 use Rattle.files.specs.Files.{recordIn}
@@ -11,10 +10,10 @@ use Rattle.files.proofs.inner.scans.total_cost.Statement.{statement}
 use Rattle.files.proofs.inner.scans.total_cost.Tie as tie
 
 abbrev Inv-loop : tie.InvT-loop
-Inv-loop links steps recorded total₀ k₀ total k = Summed k steps 558345748350 (stateCostAt recordWidth links steps (recordIn recordWidth links steps recorded)) total
+Inv-loop links steps recorded width total₀ k₀ total k = Summed k steps 558345748350 (stateCostAt width links steps (recordIn width links steps recorded)) total
 
 abbrev μ-loop : tie.MeasureT-loop
-μ-loop links steps recorded total₀ k₀ total k = steps - k
+μ-loop links steps recorded width total₀ k₀ total k = steps - k
 
 pub total-cost-spec : {M : Type 1} → statement M
 total-cost-spec =

@@ -21,6 +21,6 @@ state-row-spec =
     (λ c κs. search needs)
     (λ c. search needs)
     (λ c κs. search needs)
-    (λ c κs. state-holds _ _ _ _ _ (c .before .before .before .before .before .args .recorded .now) (c .before .row-at .ensures .1) (c .before .before .state-words .ensures .0) (c .before .before .before .before .before .pre .1) (c .before .before .before .before .before .pre .0 .3))
+    (λ c κs. state-holds _ _ _ _ _ _ (c .before .before .before .before .before .args .recorded .now) (c .before .row-at .ensures .1) (c .before .before .state-words .ensures .0) (c .before .before .before .before .before .pre .1) (c .before .before .before .before .before .pre .0 .4))
     (λ c. search needs)
     returns)
