@@ -13,7 +13,7 @@ use Rattle.tables.specs.Answer.{orElse, sized, left}
 use Rattle.tables.proofs.Answers.{orElse-accepts}
 use Rattle.tables.proofs.Tabulate.{tabulate-at}
 use Rattle.tables.proofs.Tests.{and-iff}
-use Rattle.lists.specs.Words.{recordWidth, planLength}
+use Rattle.lists.specs.Words.{planLength}
 use Rattle.lists.proofs.Limits.{sized-iff}
 use Rattle.convert.specs.Convert.{checkAnswer, converted}
 use Rattle.payload.specs.Word.{Words}
@@ -27,7 +27,7 @@ use Rattle.block.specs.Calls.{toldFits, fileAnswer}
 use Rattle.block.proofs.Calls.{told-is, length-low, length-high}
 use Rattle.block.proofs.EachKind.{number-fits}
 use Rattle.block.proofs.Chosen.{told-kind}
-use Rattle.files.specs.Files.{corridorIn, demandsIn, recordIn, filesAnswer, readThenCheck, checkFiles, convertFiles, planFile, planWritten}
+use Rattle.files.specs.Files.{corridorIn, demandsIn, fileWidth, recordIn, filesAnswer, readThenCheck, checkFiles, convertFiles, planFile, planWritten}
 use Rattle.files.proofs.Turns.{second-same, sized-same}
 use Rattle.demands.specs.Completed.{SameOnFiles}
 
@@ -42,29 +42,29 @@ of-files F read list other read′ p same q = ap F p ∙ same ∙ ap F q
 
 -- ---- files that are read alike
 
-module _ (n k : ℕ) (corridor demands corridor′ demands′ recorded : List ℕ)
-    (files-same : Told n k → filesAnswer n k corridor demands recorded ≡ filesAnswer n k corridor′ demands′ recorded)
+module _ (n k : ℕ) (corridor demands recorded corridor′ demands′ recorded′ : List ℕ)
+    (files-same : Told n k → filesAnswer n k corridor demands recorded ≡ filesAnswer n k corridor′ demands′ recorded′)
     (checks : Told n k → filesAnswer n k corridor demands recorded ≡ Accepted
-    → checkAnswer (corridorIn n corridor) (demandsIn n k demands) (recordIn recordWidth n k recorded)
-    ≡ checkAnswer (corridorIn n corridor′) (demandsIn n k demands′) (recordIn recordWidth n k recorded))
+    → checkAnswer (corridorIn n corridor) (demandsIn n k demands) (recordIn (fileWidth recorded) n k recorded)
+    ≡ checkAnswer (corridorIn n corridor′) (demandsIn n k demands′) (recordIn (fileWidth recorded′) n k recorded′))
     (plans : Told n k → filesAnswer n k corridor demands recorded ≡ Accepted
-    → converted (corridorIn n corridor) (demandsIn n k demands) (recordIn recordWidth n k recorded)
-    ≡ converted (corridorIn n corridor′) (demandsIn n k demands′) (recordIn recordWidth n k recorded)) where
+    → converted (corridorIn n corridor) (demandsIn n k demands) (recordIn (fileWidth recorded) n k recorded)
+    ≡ converted (corridorIn n corridor′) (demandsIn n k demands′) (recordIn (fileWidth recorded′) n k recorded′)) where
   told-good : toldFits n k ≡ true → Told n k
   told-good t = told-is n k (toldFits n k) refl t
 
-  reads-same : Told n k → readThenCheck n k corridor demands recorded ≡ readThenCheck n k corridor′ demands′ recorded
+  reads-same : Told n k → readThenCheck n k corridor demands recorded ≡ readThenCheck n k corridor′ demands′ recorded′
   unfolding readThenCheck
   reads-same told =
       second-same (filesAnswer n k corridor demands recorded) _ _ (checks told)
-      ∙ ap (λ (a : Answer). orElse a (checkAnswer (corridorIn n corridor′) (demandsIn n k demands′) (recordIn recordWidth n k recorded))) (files-same told)
+      ∙ ap (λ (a : Answer). orElse a (checkAnswer (corridorIn n corridor′) (demandsIn n k demands′) (recordIn (fileWidth recorded′) n k recorded′))) (files-same told)
 
-  converts-same : (room : ℕ) → convertFiles n k corridor demands recorded room ≡ convertFiles n k corridor′ demands′ recorded room
+  converts-same : (room : ℕ) → convertFiles n k corridor demands recorded room ≡ convertFiles n k corridor′ demands′ recorded′ room
   unfolding convertFiles
   converts-same room =
       sized-same (toldFits n k && eqb room (blocksFor (planLength n k) * 512)) _ _ (λ t. reads-same (told-good (and-iff (toldFits n k) _ .0 t .0)))
 
-  pub alike-files : SameOnFiles n k corridor demands corridor′ demands′ recorded
+  pub alike-files : SameOnFiles n k corridor demands recorded corridor′ demands′ recorded′
   unfolding checkFiles convertFiles planWritten readThenCheck planFile
   alike-files =
       record {
@@ -72,7 +72,7 @@ module _ (n k : ℕ) (corridor demands corridor′ demands′ recorded : List �
         convert-answers = converts-same;
         convert-writes = λ lent.
             ap (λ (a : Answer). left a (planFile n k corridor demands recorded) lent) (converts-same (length lent))
-            ∙ left-same (convertFiles n k corridor′ demands′ recorded (length lent)) _ _ lent
+            ∙ left-same (convertFiles n k corridor′ demands′ recorded′ (length lent)) _ _ lent
             (λ h.
             let r = orElse-accepts (sized (toldFits n k && eqb (length lent) (blocksFor (planLength n k) * 512))) _ .0 (converts-same (length lent) ∙ h) in
             ap (fileOf (kindNumber Plan))

@@ -1,5 +1,6 @@
 -- Beside demand 3: simulator and checker, normal forms, the one setting, and the numbers of a record.
 use Prim.Native.Nat.{ℕ, suc, _≤_, _<_}
+use mathlib.Core.Bool.{true}
 use mathlib.Core.List.{List}
 use mathlib.Core.Path.{_≡_, sym, ap, _∙_}
 use mathlib.Core.Logic.{_↔_}
@@ -11,7 +12,7 @@ use Rattle.tables.specs.Answer.{sized}
 use Rattle.tables.specs.declared.Answer.the-variants.{Accepted, Refused}
 use Rattle.tables.specs.First.{firstPlace}
 use Rattle.tables.proofs.Answers.{orElse-accepts, unless-some}
-use Rattle.tables.proofs.First.{FirstFault, firstPlace-refuses}
+use Rattle.tables.proofs.First.{FirstFault, firstPlace-refuses, firstPlace-same}
 use Rattle.road.specs.Corridor.{NodeState, Road, Plan, Trace}
 use Rattle.road.specs.Run.{junction, run}
 use Rattle.road.specs.Limits.{Limits}
@@ -19,21 +20,23 @@ use Rattle.road.proofs.Runs.{link-tops, run-jam}
 use Rattle.road.proofs.Same.{SameTraces, cost-same}
 use Rattle.road.proofs.Sizes.{run-state-fits, run-cost}
 use Rattle.settings.proofs.Settings.{named-once}
-use Rattle.lists.specs.Words.{linksOf, stepsOf, roadOf, planOf, planLength, traceOf, recordLength, recordWidth}
-use Rattle.lists.specs.Refusals.{bounds, limits}
+use Rattle.lists.specs.Words.{linksOf, stepsOf, roadOf, planOf, planLength, Width, traceOf, widthOf}
+use Rattle.lists.specs.Refusals.{recordSized, bounds, limits}
 use Rattle.faults.proofs.Tests.{eq-holds}
 use Rattle.lists.proofs.Limits.{sized-iff, bounds-iff}
-use Rattle.lists.proofs.Words.{record-wide, plan-same, plan-written, record-read}
+use Rattle.lists.proofs.Sizes.{record-wide}
+use Rattle.lists.proofs.Words.{plan-same, plan-written, record-read}
 use Rattle.lists.proofs.Fits.{record-fits}
 use Rattle.simulate.specs.Simulate.{simulateAnswer, simulated}
 use Rattle.convert.specs.Refusals.{judged}
-use Rattle.convert.specs.Convert.{planFor, converted, normalForm, checkAnswer, normalAnswer}
+use Rattle.convert.specs.Convert.{planFor, convertedBy, converted, normalForm, checkAnswer, normalAnswer}
 use Rattle.faults.proofs.Records.{queueFault, queue-iff}
 use Rattle.convert.proofs.Facts.{judged-queue}
 use Rattle.convert.proofs.Plans.{plan-named}
-use Rattle.convert.proofs.Records.{record-costs}
+use Rattle.convert.proofs.Normal.{simulated-fits}
+use Rattle.convert.proofs.Records.{record-costs, record-exits-kept}
 use Rattle.demands.specs.Beside.{InBounds, queueAt, queueLimitAt, FirstQueueAbove, Checking, NormalForms, OneSetting, RecordSizes, PlanSizes, Beside}
-use Rattle.demands.proofs.Demand3.{road-limits, simulate-answer, convert-answer, normal-answer, simulated-length, simulated-moves, valid-accepted, converted-length, accepted-keeps, returned-is-valid, accepted-iff-valid, normal-valid, normal-has-the-record, normal-accepted-iff}
+use Rattle.demands.proofs.Demand3.{road-limits, simulate-answer, convert-answer, normal-answer, queue-is, simulated-moves, valid-accepted, converted-length, accepted-keeps, returned-is-valid, accepted-iff-valid, normal-valid, normal-has-the-record, normal-accepted-iff}
 
 module _ (corridor demands : List ℕ) (within : limits corridor demands ≡ Accepted) where
   -- ---- simulator and checker
@@ -47,7 +50,7 @@ module _ (corridor demands : List ℕ) (within : limits corridor demands ≡ Acc
         λ b. r .1 (λ k i hk hi. record { rate = b k i hk hi .rate; limit = b k i hk hi .limit }),
       )
 
-  simulated-iff : (plan lent : List ℕ) → length lent ≡ recordLength recordWidth (linksOf corridor) (stepsOf demands)
+  simulated-iff : (plan lent : List ℕ) → recordSized (linksOf corridor) (stepsOf demands) (length lent) ≡ true
       → (simulateAnswer corridor demands plan (length lent) ≡ Accepted)
       ↔ ((length plan ≡ planLength (linksOf corridor) (stepsOf demands)) × (bounds (roadOf corridor demands) (planOf (roadOf corridor demands) plan) ≡ Accepted))
   simulated-iff plan lent e =
@@ -70,13 +73,16 @@ module _ (corridor demands : List ℕ) (within : limits corridor demands ≡ Acc
 
   -- ---- normal forms
 
-  only-12 : (plan : List ℕ) → bounds (roadOf corridor demands) (planOf (roadOf corridor demands) plan) ≡ Accepted
-      → judged recordWidth (roadOf corridor demands) (simulated corridor demands plan)
+  pub only-12 : (width : ℕ) → Width width → (plan : List ℕ) → bounds (roadOf corridor demands) (planOf (roadOf corridor demands) plan) ≡ Accepted
+      → judged width (roadOf corridor demands) (simulated width corridor demands plan)
       ≡ firstPlace (stepsOf demands) (suc (linksOf corridor)) (λ k i. queueFault (queueLimitAt corridor demands i) (queueAt corridor demands plan (suc k) i))
   unfolding simulated roadOf
-  only-12 plan b =
+  only-12 width wide plan b =
       let r : Road = roadOf corridor demands in
-      judged-queue recordWidth r (simulated corridor demands plan) (simulated-moves corridor demands within plan b) (record-costs recordWidth r (run r (planOf r plan)) record-wide)
+      judged-queue width r (simulated width corridor demands plan) (simulated-moves corridor demands within width wide plan b)
+      (record-exits-kept width wide r (road-limits corridor demands within) (planOf r plan)) (record-costs width r (run r (planOf r plan)) wide)
+      ∙ firstPlace-same (stepsOf demands) (suc (linksOf corridor)) _ _
+      (λ k i hk hi. ap (queueFault (queueLimitAt corridor demands i)) (queue-is corridor demands within width wide plan (suc k) i hk (omega arith)))
 
   first-above : (plan : List ℕ) (number row node : ℕ)
       → FirstFault (stepsOf demands) (suc (linksOf corridor)) (λ k i. queueFault (queueLimitAt corridor demands i) (queueAt corridor demands plan (suc k) i)) number row node
@@ -120,14 +126,14 @@ module _ (corridor demands : List ℕ) (within : limits corridor demands ≡ Acc
           }
 
   refused-iff : (plan work lent : List ℕ)
-      → length work ≡ recordLength recordWidth (linksOf corridor) (stepsOf demands) → length lent ≡ planLength (linksOf corridor) (stepsOf demands)
+      → recordSized (linksOf corridor) (stepsOf demands) (length work) ≡ true → length lent ≡ planLength (linksOf corridor) (stepsOf demands)
       → length plan ≡ planLength (linksOf corridor) (stepsOf demands) → bounds (roadOf corridor demands) (planOf (roadOf corridor demands) plan) ≡ Accepted
       → (number row node : ℕ)
       → (normalAnswer corridor demands plan (length work) (length lent) ≡ Refused number row node) ↔ ((number ≡ 12) × FirstQueueAbove corridor demands plan row node)
   refused-iff plan work lent hw hl hp b number row node =
       let fault : ℕ → ℕ → ℕ = λ k i. queueFault (queueLimitAt corridor demands i) (queueAt corridor demands plan (suc k) i) in
       let left : normalAnswer corridor demands plan (length work) (length lent) ≡ firstPlace (stepsOf demands) (suc (linksOf corridor)) fault =
-      normal-answer corridor demands within plan (length work) (length lent) hw hl ∙ simp (eq-eqb (length plan) _ hp, b) (only-12 plan b) in
+      normal-answer corridor demands within plan (length work) (length lent) hw hl ∙ simp (eq-eqb (length plan) _ hp, b) (only-12 (widthOf corridor demands (length work)) (record-wide (linksOf corridor) (stepsOf demands) (length work)) plan b) in
       let r = firstPlace-refuses (stepsOf demands) (suc (linksOf corridor)) fault number row node in
       let s = first-above plan number row node in
       (λ e. s .0 (r .0 (sym left ∙ e)), λ h. left ∙ r .1 (s .1 h))
@@ -141,19 +147,19 @@ module _ (corridor demands : List ℕ) (within : limits corridor demands ≡ Acc
         refused-iff-first-queue-above = refused-iff;
         normal-form-is-valid = normal-valid corridor demands within;
         normal-form-has-the-record = normal-has-the-record corridor demands within;
-        normal-form-is-its-own = λ plan v. ap (converted corridor demands) (normal-has-the-record corridor demands within plan v);
+        normal-form-is-its-own = λ width wide plan v. ap (converted corridor demands) (normal-has-the-record corridor demands within width wide plan v);
       }
 
   -- ---- the one setting
 
   one-setting : OneSetting corridor demands
-  unfolding converted roadOf
+  unfolding convertedBy roadOf
   one-setting =
       record {
         one-setting = named-once;
         one-plan = λ words plan a fits named.
             let r : Road = roadOf corridor demands in
-            let trace : Trace = traceOf recordWidth r words in
+            let trace : Trace = traceOf (widthOf corridor demands (length words)) r words in
             plan-written r plan fits
             ∙ plan-same r (planOf r plan) (planFor r trace)
             (λ k i hk hi.
@@ -164,18 +170,18 @@ module _ (corridor demands : List ℕ) (within : limits corridor demands ≡ Acc
 
   -- ---- the numbers of a record
 
-  record-sizes : (plan : List ℕ) → RecordSizes corridor demands plan
+  record-sizes : (width : ℕ) → Width width → (plan : List ℕ) → RecordSizes width corridor demands plan
   unfolding simulated roadOf run
-  record-sizes plan =
+  record-sizes width wide plan =
       let r : Road = roadOf corridor demands in
       let p : Plan = planOf r plan in
       let lim : Limits r = road-limits corridor demands within in
-      let same : SameTraces r (traceOf recordWidth r (simulated corridor demands plan)) (run r p) = record-read recordWidth r (run r p) record-wide in
+      let same : SameTraces r (traceOf width r (simulated width corridor demands plan)) (run r p) = record-read width r (run r p) wide in
       record {
-        record-length = simulated-length corridor demands within plan;
+        record-length = simulated-fits width corridor demands plan;
         vehicles-within-jam = λ k i hk hi. omega (arith, ap (λ (s : NodeState). s .vehicles) (same k i hk hi .state), run-jam r lim p k i hk hi);
-        queues-at-most = λ k i hk hi. omega (arith, ap (λ (s : NodeState). s .queue) (same k i hk hi .state), run-state-fits r lim p k i hk hi .queue);
-        words-fit = record-fits recordWidth r lim p;
+        queues-at-most = λ k i hk hi. omega (arith, run-state-fits r lim p k i hk hi .queue);
+        words-fit = record-fits width r lim p;
         cost-fits = omega (arith, cost-same r _ _ same, run-cost r lim p);
       }
 

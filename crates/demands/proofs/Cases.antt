@@ -11,17 +11,17 @@ use Rattle.settings.specs.Rate.{fullFlows, gives, rateFor}
 use Rattle.settings.specs.Setting.{heldLimit, settingFor}
 use Rattle.settings.proofs.Cases.{cases as node-cases}
 use Rattle.payload.proofs.Cases.{cases as file-cases}
-use Rattle.lists.specs.Words.{linksOf, byKind, nodeAt, stepsOf, roadOf, planOf, planWord, planWords, traceOf}
+use Rattle.lists.specs.Words.{linksOf, byKind, nodeAt, stepsOf, roadOf, planOf, planWord, planWords, traceOf, exitSaid, recordWidth}
 use Rattle.faults.specs.Lists.{linkFault, rampFault, startFault, demandFault}
-use Rattle.lists.specs.Refusals.{corridorSized, demandsSized, sizes, fresh, linkRefusal, rampRefusal, startRefusal, demandRefusal, ranges}
+use Rattle.lists.specs.Refusals.{corridorSized, demandsSized, recordSized, sizes, fresh, linkRefusal, rampRefusal, startRefusal, demandRefusal, ranges}
 use Rattle.simulate.proofs.Case.{case-1}
-use Rattle.faults.specs.Records.{fixedFault, stepFault, totalFault}
+use Rattle.faults.specs.Records.{fixedFault, nextFault, stepFault, totalFault}
 use Rattle.convert.specs.Refusals.{costFault, judged}
-use Rattle.convert.specs.Convert.{settingAt, planFor, converted, convertAnswer}
+use Rattle.convert.specs.Convert.{settingAt, planFor, convertedBy, convertAnswer}
 use Rattle.demands.specs.Cases.{Cases}
 
 pub cases : Cases
-unfolding first cell grid leastFrom sum tabulate discharge sending exit through offer receiving passed merge flowsWith outflow moved supply junction inflow next cost fullFlows gives rateFor heldLimit settingFor linksOf byKind nodeAt stepsOf roadOf planOf planWord planWords traceOf corridorSized demandsSized sizes linkFault fresh rampFault startFault demandFault linkRefusal rampRefusal startRefusal demandRefusal ranges fixedFault stepFault totalFault costFault judged settingAt planFor converted convertAnswer
+unfolding first cell grid leastFrom sum tabulate discharge sending exit through offer receiving passed merge flowsWith outflow moved supply junction inflow next cost fullFlows gives rateFor heldLimit settingFor linksOf byKind nodeAt stepsOf roadOf planOf planWord planWords traceOf exitSaid recordWidth corridorSized demandsSized recordSized sizes linkFault fresh rampFault startFault demandFault linkRefusal rampRefusal startRefusal demandRefusal ranges fixedFault nextFault stepFault totalFault costFault judged settingAt planFor convertedBy convertAnswer
 cases =
     record {
       case-1-sending = node-cases .case-1-sending;

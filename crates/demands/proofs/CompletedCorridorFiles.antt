@@ -13,18 +13,18 @@ use Rattle.tables.specs.Answer.{orElse, sized}
 use Rattle.tables.specs.Grid.{cell, rowWords}
 use Rattle.tables.proofs.Numbers.{le-or-lt}
 use Rattle.tables.proofs.Tabulate.{tabulate-at, tabulate-past}
-use Rattle.lists.specs.Words.{linksOf, corridorLength, recordWidth}
+use Rattle.lists.specs.Words.{linksOf, corridorLength}
 use Rattle.convert.specs.Convert.{checkAnswer, converted}
 use Rattle.payload.specs.Word.{Words}
 use Rattle.payload.specs.File.{payloadOf, fileOf}
 use Rattle.block.specs.declared.Kind.the-variants.{Corridor, Demands, Record}
 use Rattle.block.specs.Kinds.{Told, kindNumber, listLength, ownAgrees, later, fileKind}
 use Rattle.block.specs.Calls.{fileAnswer}
-use Rattle.files.specs.Files.{corridorIn, demandsIn, recordIn, filesAnswer}
+use Rattle.files.specs.Files.{corridorIn, demandsIn, fileWidth, recordIn, filesAnswer}
 use Rattle.files.proofs.Corridors.{corridor-count}
 use Rattle.files.proofs.Answers.{files-fit}
 use Rattle.files.proofs.Contents.{own-links}
-use Rattle.demands.specs.Completed.{completedWord, completedCorridor, SameOnFiles, Completes}
+use Rattle.demands.specs.Completed.{completedWord, completedCorridor, SameOnFiles}
 use Rattle.demands.proofs.AlikeFiles.{of-files, alike-files, file-holds, file-answers}
 use Rattle.demands.proofs.Completed.{demands-alike}
 use Rattle.demands.proofs.CompletedFiles.{demands-files}
@@ -74,7 +74,7 @@ module _ (n k : ℕ) (corridor demands recorded : List ℕ) (fits : Words corrid
 
     files-same : filesAnswer n k short demands recorded ≡ filesAnswer n k long demands recorded
     unfolding filesAnswer
-    files-same = ap (λ (a : Answer). orElse a (orElse (fileAnswer (fileKind Demands demands) n k demands) (fileAnswer Record n k recorded))) answers-same
+    files-same = ap (λ (a : Answer). orElse a (orElse (fileAnswer (fileKind Demands demands) n k demands) (fileAnswer (fileKind Record recorded) n k recorded))) answers-same
 
     -- where the files are read, the corridor has this N
     module _ (read : filesAnswer n k short demands recorded ≡ Accepted) where
@@ -87,26 +87,17 @@ module _ (n k : ℕ) (corridor demands recorded : List ℕ) (fits : Words corrid
       full-is : completedCorridor (linksOf corridor) corridor ≡ corridorIn n long
       full-is = ap (λ (m : ℕ). completedCorridor m corridor) links-are ∙ sym read-long
 
-      checks : checkAnswer (corridorIn n short) (demandsIn n k demands) (recordIn recordWidth n k recorded)
-          ≡ checkAnswer (corridorIn n long) (demandsIn n k demands) (recordIn recordWidth n k recorded)
+      checks : checkAnswer (corridorIn n short) (demandsIn n k demands) (recordIn (fileWidth recorded) n k recorded)
+          ≡ checkAnswer (corridorIn n long) (demandsIn n k demands) (recordIn (fileWidth recorded) n k recorded)
       checks =
-          of-files (λ c. checkAnswer c (demandsIn n k demands) (recordIn recordWidth n k recorded)) _ _ _ _ read-short
-          (corridor-checks corridor fit (demandsIn n k demands) (recordIn recordWidth n k recorded)) full-is
+          of-files (λ c. checkAnswer c (demandsIn n k demands) (recordIn (fileWidth recorded) n k recorded)) _ _ _ _ read-short
+          (corridor-checks corridor fit (demandsIn n k demands) (recordIn (fileWidth recorded) n k recorded)) full-is
 
-      plans : converted (corridorIn n short) (demandsIn n k demands) (recordIn recordWidth n k recorded)
-          ≡ converted (corridorIn n long) (demandsIn n k demands) (recordIn recordWidth n k recorded)
+      plans : converted (corridorIn n short) (demandsIn n k demands) (recordIn (fileWidth recorded) n k recorded)
+          ≡ converted (corridorIn n long) (demandsIn n k demands) (recordIn (fileWidth recorded) n k recorded)
       plans =
-          of-files (λ c. converted c (demandsIn n k demands) (recordIn recordWidth n k recorded)) _ _ _ _ read-short
-          (corridor-plans corridor fit (demandsIn n k demands) (recordIn recordWidth n k recorded)) full-is
+          of-files (λ c. converted c (demandsIn n k demands) (recordIn (fileWidth recorded) n k recorded)) _ _ _ _ read-short
+          (corridor-plans corridor fit (demandsIn n k demands) (recordIn (fileWidth recorded) n k recorded)) full-is
 
-  corridor-files : SameOnFiles n k (fileOf 1 corridor) demands (fileOf 10 (completedCorridor n corridor)) demands recorded
-  corridor-files = alike-files n k short demands long demands recorded files-same checks plans
-
-pub completes : Completes
-completes =
-    record {
-      demands-on-lists = demands-alike;
-      demands-on-files = demands-files;
-      corridor-on-lists = λ corridor demands fits. corridor-alike corridor fits demands;
-      corridor-on-files = corridor-files;
-    }
+  pub corridor-files : SameOnFiles n k (fileOf 1 corridor) demands recorded (fileOf 10 (completedCorridor n corridor)) demands recorded
+  corridor-files = alike-files n k short demands recorded long demands recorded files-same checks plans

@@ -12,14 +12,14 @@ use Rattle.tables.specs.declared.Answer.{Answer}
 use Rattle.tables.specs.declared.Answer.the-variants.{Accepted}
 use Rattle.tables.specs.Answer.{orElse, sized}
 use Rattle.tables.proofs.Numbers.{le-or-lt}
-use Rattle.lists.specs.Words.{linksOf, stepsOf, demandsLength, downstreamLength, free, recordWidth}
+use Rattle.lists.specs.Words.{linksOf, stepsOf, demandsLength, downstreamLength, free}
 use Rattle.convert.specs.Convert.{checkAnswer, converted}
 use Rattle.payload.specs.Word.{Words}
 use Rattle.payload.specs.File.{fileOf}
 use Rattle.block.specs.declared.Kind.the-variants.{Corridor, Demands, Record}
 use Rattle.block.specs.Kinds.{Told, kindNumber, listLength, ownAgrees, later, fileKind}
 use Rattle.block.specs.Calls.{fileAnswer}
-use Rattle.files.specs.Files.{corridorIn, demandsIn, recordIn, filesAnswer}
+use Rattle.files.specs.Files.{corridorIn, demandsIn, fileWidth, recordIn, filesAnswer}
 use Rattle.files.proofs.Answers.{files-fit}
 use Rattle.files.proofs.Contents.{own-links, own-steps}
 use Rattle.demands.specs.Completed.{completed, SameOnFiles}
@@ -75,7 +75,7 @@ module _ (n k : ℕ) (corridor demands recorded : List ℕ) (fits : Words demand
 
     files-same : filesAnswer n k corridor short recorded ≡ filesAnswer n k corridor long recorded
     unfolding filesAnswer
-    files-same = ap (λ (a : Answer). orElse (fileAnswer (fileKind Corridor corridor) n k corridor) (orElse a (fileAnswer Record n k recorded))) answers-same
+    files-same = ap (λ (a : Answer). orElse (fileAnswer (fileKind Corridor corridor) n k corridor) (orElse a (fileAnswer (fileKind Record recorded) n k recorded))) answers-same
 
     -- where the files are read, the lists have this N and K
     module _ (read : filesAnswer n k corridor short recorded ≡ Accepted) where
@@ -91,17 +91,17 @@ module _ (n k : ℕ) (corridor demands recorded : List ℕ) (fits : Words demand
       full-is : completed (stepsOf demands) demands ≡ demandsIn n k long
       full-is = ap (λ (s : ℕ). completed s demands) steps-are ∙ sym read-long
 
-      checks : checkAnswer (corridorIn n corridor) (demandsIn n k short) (recordIn recordWidth n k recorded)
-          ≡ checkAnswer (corridorIn n corridor) (demandsIn n k long) (recordIn recordWidth n k recorded)
+      checks : checkAnswer (corridorIn n corridor) (demandsIn n k short) (recordIn (fileWidth recorded) n k recorded)
+          ≡ checkAnswer (corridorIn n corridor) (demandsIn n k long) (recordIn (fileWidth recorded) n k recorded)
       checks =
-          of-files (λ d. checkAnswer (corridorIn n corridor) d (recordIn recordWidth n k recorded)) _ _ _ _ read-short
-          (demands-checks (corridorIn n corridor) demands fit (recordIn recordWidth n k recorded)) full-is
+          of-files (λ d. checkAnswer (corridorIn n corridor) d (recordIn (fileWidth recorded) n k recorded)) _ _ _ _ read-short
+          (demands-checks (corridorIn n corridor) demands fit (recordIn (fileWidth recorded) n k recorded)) full-is
 
-      plans : converted (corridorIn n corridor) (demandsIn n k short) (recordIn recordWidth n k recorded)
-          ≡ converted (corridorIn n corridor) (demandsIn n k long) (recordIn recordWidth n k recorded)
+      plans : converted (corridorIn n corridor) (demandsIn n k short) (recordIn (fileWidth recorded) n k recorded)
+          ≡ converted (corridorIn n corridor) (demandsIn n k long) (recordIn (fileWidth recorded) n k recorded)
       plans =
-          of-files (λ d. converted (corridorIn n corridor) d (recordIn recordWidth n k recorded)) _ _ _ _ read-short
-          (demands-plans (corridorIn n corridor) demands fit (recordIn recordWidth n k recorded)) full-is
+          of-files (λ d. converted (corridorIn n corridor) d (recordIn (fileWidth recorded) n k recorded)) _ _ _ _ read-short
+          (demands-plans (corridorIn n corridor) demands fit (recordIn (fileWidth recorded) n k recorded)) full-is
 
-  pub demands-files : SameOnFiles n k corridor (fileOf 2 demands) corridor (fileOf 5 (completed k demands)) recorded
-  demands-files = alike-files n k corridor short corridor long recorded files-same checks plans
+  pub demands-files : SameOnFiles n k corridor (fileOf 2 demands) recorded corridor (fileOf 5 (completed k demands)) recorded
+  demands-files = alike-files n k corridor short recorded corridor long recorded files-same checks plans

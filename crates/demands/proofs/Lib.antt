@@ -10,3 +10,7 @@ pub mod Completed
 pub mod CompletedFiles
 pub mod CompletedCorridor
 pub mod CompletedCorridorFiles
+pub mod CompletedRecord
+pub mod CompletedRecordFiles
+pub mod Completes
+pub mod Exits

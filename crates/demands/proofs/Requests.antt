@@ -1,4 +1,4 @@
--- The worked cases of requests 01 and 07: each holds by computation.
+-- The worked cases of requests 01, 04 and 07: each holds by computation.
 use mathlib.Core.Path.{refl}
 use Rattle.tables.specs.First.{first}
 use Rattle.tables.specs.Grid.{cell, grid}
@@ -9,19 +9,20 @@ use Rattle.road.specs.Step.{discharge, sending, exit, through, offer, receiving
 use Rattle.road.specs.Run.{supply, junction, inflow, next, planFlows, stateAt, noFlow, run, cost}
 use Rattle.settings.specs.Rate.{fullFlows, gives, rateFor}
 use Rattle.settings.specs.Setting.{heldLimit, settingFor}
-use Rattle.lists.specs.Words.{linksOf, byKind, nodeAt, stepsOf, roadOf, planOf, planWord, planWords, nodeWord, traceOf, traceWords, recordWords}
+use Rattle.lists.specs.Words.{linksOf, byKind, nodeAt, stepsOf, roadOf, planOf, planWord, planWords, nodeWord, traceOf, exitSaid, traceWords, recordWords, recordWidth}
 use Rattle.faults.specs.Lists.{linkFault, rampFault, startFault, demandFault, planFault}
-use Rattle.lists.specs.Refusals.{corridorSized, demandsSized, sizes, fresh, linkRefusal, rampRefusal, startRefusal, demandRefusal, ranges, bounds, limits}
-use Rattle.faults.specs.Records.{fixedFault, stepFault, totalFault}
+use Rattle.lists.specs.Refusals.{corridorSized, demandsSized, recordSized, sizes, fresh, linkRefusal, rampRefusal, startRefusal, demandRefusal, ranges, bounds, limits}
+use Rattle.faults.specs.Records.{fixedFault, nextFault, stepFault, totalFault}
 use Rattle.simulate.specs.Simulate.{simulateSizes, simulateAnswer, simulated}
 use Rattle.convert.specs.Refusals.{costFault, judged}
-use Rattle.convert.specs.Convert.{settingAt, planFor, converted, convertAnswer}
+use Rattle.convert.specs.Convert.{settingAt, planFor, convertedBy, checkAnswer, convertAnswer}
 use Rattle.demands.specs.Downstream.{DownstreamCases}
 use Rattle.demands.specs.Drop.{DropCases}
+use Rattle.demands.specs.Exits.{ExitCases}
 
-both : DownstreamCases × DropCases
-unfolding first cell grid leastFrom sum tabulate discharge sending exit through offer receiving passed merge flowsWith outflow moved supply junction inflow next cost fullFlows gives rateFor heldLimit settingFor linksOf byKind nodeAt stepsOf roadOf planOf planWord planWords traceOf sizes linkFault fresh rampFault startFault demandFault linkRefusal rampRefusal startRefusal demandRefusal ranges fixedFault stepFault totalFault costFault judged settingAt planFor converted convertAnswer run planFlows stateAt noFlow nodeWord traceWords recordWords corridorSized demandsSized planFault bounds limits simulateSizes simulateAnswer simulated
-both = (
+all : DownstreamCases × DropCases × ExitCases
+unfolding first cell grid leastFrom sum tabulate discharge sending exit through offer receiving passed merge flowsWith outflow moved supply junction inflow next cost fullFlows gives rateFor heldLimit settingFor linksOf byKind nodeAt stepsOf roadOf planOf planWord planWords traceOf exitSaid recordWidth sizes linkFault fresh rampFault startFault demandFault linkRefusal rampRefusal startRefusal demandRefusal ranges fixedFault nextFault stepFault totalFault costFault judged settingAt planFor convertedBy checkAnswer convertAnswer run planFlows stateAt noFlow nodeWord traceWords recordWords corridorSized demandsSized recordSized planFault bounds limits simulateSizes simulateAnswer simulated
+all = (
   record {
     simulates = (refl, refl);
     full = (refl, refl);
@@ -57,10 +58,30 @@ both = (
     recovers = (refl, refl);
     congested = (refl, refl);
   },
+  record {
+    simulates = (refl, refl);
+    converts = record { accepted = refl; plans = refl };
+    more = refl;
+    less = refl;
+    rounds-down = refl;
+    not-up = refl;
+    after-9 = refl;
+    after-10 = refl;
+    before-12 = refl;
+    then-12 = refl;
+    entry = refl;
+    end = refl;
+    last = refl;
+    one-short = refl;
+    one-long = refl;
+  },
 )
 
 pub downstream-cases : DownstreamCases
-downstream-cases = both .0
+downstream-cases = all .0
 
 pub drop-cases : DropCases
-drop-cases = both .1
+drop-cases = all .1
+
+pub exit-cases : ExitCases
+exit-cases = all .2

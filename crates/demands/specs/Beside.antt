@@ -1,6 +1,7 @@
 -- Beside demand 3, for a corridor and demands within limits: what document 01 says of simulator, checker and normal form, of the one
 -- setting that it names, and of the numbers in a record.
 use Prim.Native.Nat.{ℕ, suc, _≤_, _<_}
+use mathlib.Core.Bool.{true}
 use mathlib.Core.List.{List}
 use mathlib.Core.Path.{_≡_}
 use mathlib.Core.Logic.{_↔_}
@@ -13,9 +14,9 @@ use Rattle.road.specs.Corridor.{Flows}
 use Rattle.road.specs.Step.{Junction}
 use Rattle.road.specs.Run.{cost}
 use Rattle.settings.specs.Share.{IsSetting}
-use Rattle.lists.specs.Words.{linksOf, stepsOf, roadOf, planOf, traceOf, planLength, recordLength, recordWidth}
-use Rattle.lists.specs.Refusals.{bounds}
-use Rattle.simulate.specs.Simulate.{simulateAnswer, simulated}
+use Rattle.lists.specs.Words.{linksOf, stepsOf, roadOf, planOf, traceOf, planLength, Width, recordLength}
+use Rattle.lists.specs.Refusals.{recordSized, bounds}
+use Rattle.simulate.specs.Simulate.{ranState, simulateAnswer, simulated}
 use Rattle.convert.specs.Refusals.{judged}
 use Rattle.convert.specs.Convert.{converted, normalForm, checkAnswer, convertAnswer, normalAnswer}
 use Rattle.demands.specs.Demand3.{Valid, SomeValidPlan, recorded, recordedFlows, rateAt, limitAt}
@@ -25,14 +26,14 @@ pub record InBounds (corridor demands plan : List ℕ) (k i : ℕ) : Type 0 wher
   pub rate : rateAt corridor demands plan k i ≤ roadOf corridor demands .node i .ramp .capacity
   pub limit : limitAt corridor demands plan k i ≤ roadOf corridor demands .node i .link .fullSpeed
 
--- the queue of node i in state k of a plan's record, and L of node i
+-- the queue of node i in state k of a plan, and L of node i
 abbrev pub queueAt : List ℕ → List ℕ → List ℕ → ℕ → ℕ → ℕ
-queueAt corridor demands plan k i = traceOf recordWidth (roadOf corridor demands) (simulated corridor demands plan) .state k i .queue
+queueAt corridor demands plan k i = ranState corridor demands plan k i .queue
 
 abbrev pub queueLimitAt : List ℕ → List ℕ → ℕ → ℕ
 queueLimitAt corridor demands i = roadOf corridor demands .node i .ramp .queueLimit
 
--- by step, then node, the first queue of a plan's record that ends a step above L is that of node i after step k
+-- by step, then node, the first queue of a plan that ends a step above L is that of node i after step k
 pub record FirstQueueAbove (corridor demands plan : List ℕ) (k i : ℕ) : Type 0 where
   pub step : k < stepsOf demands
   pub node : i ≤ linksOf corridor
@@ -47,12 +48,12 @@ pub record Checking (corridor demands : List ℕ) : Type 0 where
       → (bounds (roadOf corridor demands) (planOf (roadOf corridor demands) plan) ≡ Accepted)
       ↔ ((k i : ℕ) → k < stepsOf demands → i ≤ linksOf corridor → InBounds corridor demands plan k i)
   -- the simulator records every plan within bounds, valid or not
-  pub simulated-iff-within-bounds : (plan lent : List ℕ) → length lent ≡ recordLength recordWidth (linksOf corridor) (stepsOf demands)
+  pub simulated-iff-within-bounds : (plan lent : List ℕ) → recordSized (linksOf corridor) (stepsOf demands) (length lent) ≡ true
       → (simulateAnswer corridor demands plan (length lent) ≡ Accepted)
       ↔ ((length plan ≡ planLength (linksOf corridor) (stepsOf demands))
       × (bounds (roadOf corridor demands) (planOf (roadOf corridor demands) plan) ≡ Accepted))
-  -- the checker accepts the record of every valid plan
-  pub valid-plans-record-accepted : (plan : List ℕ) → Valid corridor demands plan → checkAnswer corridor demands (simulated corridor demands plan) ≡ Accepted
+  -- the checker accepts the record of every valid plan, of either kind
+  pub valid-plans-record-accepted : (width : ℕ) → Width width → (plan : List ℕ) → Valid corridor demands plan → checkAnswer corridor demands (simulated width corridor demands plan) ≡ Accepted
   -- and a record exactly when some valid plan has it
   pub accepted-iff-some-valid-plan : (words : List ℕ) → (checkAnswer corridor demands words ≡ Accepted) ↔ SomeValidPlan corridor demands words
   -- it answers as the converter does
@@ -63,27 +64,27 @@ pub record Checking (corridor demands : List ℕ) : Type 0 where
 pub record NormalForms (corridor demands : List ℕ) : Type 0 where
   -- a normal form's answer is accepted exactly for valid plans, whatever the list
   pub normal-form-accepted-iff-valid : (plan work lent : List ℕ)
-      → length work ≡ recordLength recordWidth (linksOf corridor) (stepsOf demands) → length lent ≡ planLength (linksOf corridor) (stepsOf demands)
+      → recordSized (linksOf corridor) (stepsOf demands) (length work) ≡ true → length lent ≡ planLength (linksOf corridor) (stepsOf demands)
       → (normalAnswer corridor demands plan (length work) (length lent) ≡ Accepted) ↔ Valid corridor demands plan
   -- "12, the one of 7..13 that it can meet": of a plan within bounds, the answer of 7 to 13 is that of 12
-  pub only-12-is-left : (plan : List ℕ) → bounds (roadOf corridor demands) (planOf (roadOf corridor demands) plan) ≡ Accepted
-      → judged recordWidth (roadOf corridor demands) (simulated corridor demands plan)
+  pub only-12-is-left : (width : ℕ) → Width width → (plan : List ℕ) → bounds (roadOf corridor demands) (planOf (roadOf corridor demands) plan) ≡ Accepted
+      → judged width (roadOf corridor demands) (simulated width corridor demands plan)
       ≡ firstPlace (stepsOf demands) (suc (linksOf corridor))
       (λ k i. unless (leb (queueAt corridor demands plan (suc k) i) (queueLimitAt corridor demands i)) 12)
   -- with its place: 12 is given for the first queue above L, and nothing else is given
   pub refused-iff-first-queue-above : (plan work lent : List ℕ)
-      → length work ≡ recordLength recordWidth (linksOf corridor) (stepsOf demands) → length lent ≡ planLength (linksOf corridor) (stepsOf demands)
+      → recordSized (linksOf corridor) (stepsOf demands) (length work) ≡ true → length lent ≡ planLength (linksOf corridor) (stepsOf demands)
       → length plan ≡ planLength (linksOf corridor) (stepsOf demands)
       → bounds (roadOf corridor demands) (planOf (roadOf corridor demands) plan) ≡ Accepted
       → (number row node : ℕ)
       → (normalAnswer corridor demands plan (length work) (length lent) ≡ Refused number row node)
       ↔ ((number ≡ 12) × FirstQueueAbove corridor demands plan row node)
   -- a valid plan's normal form is valid, has the plan's record and is its own normal form
-  pub normal-form-is-valid : (plan : List ℕ) → Valid corridor demands plan → Valid corridor demands (normalForm corridor demands plan)
-  pub normal-form-has-the-record : (plan : List ℕ) → Valid corridor demands plan
-      → simulated corridor demands (normalForm corridor demands plan) ≡ simulated corridor demands plan
-  pub normal-form-is-its-own : (plan : List ℕ) → Valid corridor demands plan
-      → normalForm corridor demands (normalForm corridor demands plan) ≡ normalForm corridor demands plan
+  pub normal-form-is-valid : (width : ℕ) → Width width → (plan : List ℕ) → Valid corridor demands plan → Valid corridor demands (normalForm width corridor demands plan)
+  pub normal-form-has-the-record : (width : ℕ) → Width width → (plan : List ℕ) → Valid corridor demands plan
+      → simulated width corridor demands (normalForm width corridor demands plan) ≡ simulated width corridor demands plan
+  pub normal-form-is-its-own : (width : ℕ) → Width width → (plan : List ℕ) → Valid corridor demands plan
+      → normalForm width corridor demands (normalForm width corridor demands plan) ≡ normalForm width corridor demands plan
 
 -- "A node's setting is either full, or held at a limit.": document 01 names one
 pub record OneSetting (corridor demands : List ℕ) : Type 0 where
@@ -96,16 +97,16 @@ pub record OneSetting (corridor demands : List ℕ) : Type 0 where
       → plan ≡ converted corridor demands words
 
 -- the numbers in the record of a plan, whatever its words
-pub record RecordSizes (corridor demands plan : List ℕ) : Type 0 where
-  pub record-length : length (simulated corridor demands plan) ≡ recordLength recordWidth (linksOf corridor) (stepsOf demands)
+pub record RecordSizes (width : ℕ) (corridor demands plan : List ℕ) : Type 0 where
+  pub record-length : length (simulated width corridor demands plan) ≡ recordLength width (linksOf corridor) (stepsOf demands)
   -- n ≤ J
   pub vehicles-within-jam : (k i : ℕ) → k ≤ stepsOf demands → i ≤ linksOf corridor
-      → traceOf recordWidth (roadOf corridor demands) (simulated corridor demands plan) .state k i .vehicles ≤ roadOf corridor demands .node i .link .jam
+      → traceOf width (roadOf corridor demands) (simulated width corridor demands plan) .state k i .vehicles ≤ roadOf corridor demands .node i .link .jam
   pub queues-at-most : (k i : ℕ) → k ≤ stepsOf demands → i ≤ linksOf corridor → queueAt corridor demands plan k i ≤ 228589568
   -- every word is below 2^32
-  pub words-fit : (j : ℕ) → getD (simulated corridor demands plan) j 0 < 4294967296
+  pub words-fit : (j : ℕ) → getD (simulated width corridor demands plan) j 0 < 4294967296
   -- the cost is below 2^45
-  pub cost-fits : cost (roadOf corridor demands) (traceOf recordWidth (roadOf corridor demands) (simulated corridor demands plan)) < 35184372088832
+  pub cost-fits : cost (roadOf corridor demands) (traceOf width (roadOf corridor demands) (simulated width corridor demands plan)) < 35184372088832
 
 -- and in the plan that the converter returns: its words are at most 65,536
 pub record PlanSizes (corridor demands words : List ℕ) : Type 0 where
@@ -119,5 +120,5 @@ pub record Beside (corridor demands : List ℕ) : Type 0 where
   pub checking : Checking corridor demands
   pub normalForms : NormalForms corridor demands
   pub oneSetting : OneSetting corridor demands
-  pub recordSizes : (plan : List ℕ) → RecordSizes corridor demands plan
+  pub recordSizes : (width : ℕ) → Width width → (plan : List ℕ) → RecordSizes width corridor demands plan
   pub planSizes : (words : List ℕ) → PlanSizes corridor demands words

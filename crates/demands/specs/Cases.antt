@@ -47,7 +47,7 @@ pub record Cases : Type 0 where
   pub case-1-supply : receiving link 200 ≡ 100
   -- f1 = 80, r1 = 40, f2 = 100; next n 120, 200, l 30, 20; cost 370
   pub case-1-accepted : simulateAnswer corridor demands plan (length record-1) ≡ Accepted
-  pub case-1 : simulated corridor demands plan ≡ record-1
+  pub case-1 : simulated 4 corridor demands plan ≡ record-1
   -- that record: node 1 full, rate 50 (49 gives r = 39)
   pub case-2 : Converts corridor record-1 (planWith 50 32768)
   pub case-2-below : flowsWith (nodeOne 200 200) 49 32768 .ramp ≡ 39

@@ -1,14 +1,16 @@
 -- Demand 2 in its own words: the simulator's record, and block files.
-use Prim.Native.Nat.{ℕ, _≤_, _<_, _+_, _*_, _%_, _/_}
+use Prim.Native.Nat.{ℕ, _≤_, _<_, _+_, _-_, _*_, _%_, _/_}
 use mathlib.Core.Logic.{_≢_}
 use mathlib.Core.List.{List}
 use mathlib.Core.Path.{_≡_}
 use lib.ListN.{length, getD}
 use Rattle.tables.specs.declared.Answer.{Answer}
 use Rattle.tables.specs.declared.Answer.the-variants.{Accepted, Refused}
-use Rattle.road.specs.Corridor.{Road, Plan}
+use Rattle.tables.specs.Grid.{place}
+use Rattle.road.specs.Corridor.{Road, Plan, nodes}
+use Rattle.road.specs.Step.{exit, through}
 use Rattle.road.specs.Run.{planFlows, stateAt, noFlow, run, cost}
-use Rattle.lists.specs.Words.{roadOf, planOf, traceOf, traceLength, recordLength, recordWidth}
+use Rattle.lists.specs.Words.{roadOf, planOf, Width, traceOf, traceLength, recordLength}
 use Rattle.simulate.specs.Simulate.{simulated}
 use Rattle.payload.specs.Word.{Bytes, Words}
 use Rattle.payload.specs.File.{blocksFor, OneChange}
@@ -16,17 +18,32 @@ use Rattle.block.specs.declared.Kind.{Kind}
 use Rattle.block.specs.Kinds.{listLength, fileKind, listKind}
 use Rattle.block.specs.Calls.{readAnswer, wordsRead, writeAnswer, fileWritten}
 
+-- the word of a record that says what leaves by the off-ramp of node i in state k: kind 7 has it
+abbrev pub exitWord : Road → List ℕ → ℕ → ℕ → ℕ
+exitWord road words k i = getD words (place 5 (nodes road) k i 4) 0
+
+-- the mainline flow of node i in step k
+abbrev pub mainFlow : Road → Plan → ℕ → ℕ → ℕ
+mainFlow road plan k i = planFlows road plan k (stateAt road plan k) i .main
+
 -- "the simulator's record equals the Link-Node Cell Transmission Model as document 01 rounds it to whole units:"
-pub record SimulatedRecord (corridor demands words : List ℕ) (road : Road) (plan : Plan) : Type 0 where
-  pub record-length : length (simulated corridor demands words) ≡ recordLength recordWidth (road .links) (road .steps)
+-- `width` is how many words a node has in it, 4 in kind 3 and 5 in kind 7
+pub record SimulatedRecord (width : ℕ) (corridor demands words : List ℕ) (road : Road) (plan : Plan) : Type 0 where
+  pub record-length : length (simulated width corridor demands words) ≡ recordLength width (road .links) (road .steps)
   -- "each density, queue,"
-  pub states : (k i : ℕ) → k ≤ road .steps → i ≤ road .links → traceOf recordWidth road (simulated corridor demands words) .state k i ≡ stateAt road plan k i
+  pub states : (k i : ℕ) → k ≤ road .steps → i ≤ road .links → traceOf width road (simulated width corridor demands words) .state k i ≡ stateAt road plan k i
   -- "mainline flow and ramp flow,"
-  pub flows : (k i : ℕ) → k < road .steps → i ≤ road .links → traceOf recordWidth road (simulated corridor demands words) .flows k i ≡ planFlows road plan k (stateAt road plan k) i
-  pub last-flows : (i : ℕ) → i ≤ road .links → traceOf recordWidth road (simulated corridor demands words) .flows (road .steps) i ≡ noFlow
+  pub flows : (k i : ℕ) → k < road .steps → i ≤ road .links → traceOf width road (simulated width corridor demands words) .flows k i ≡ planFlows road plan k (stateAt road plan k) i
+  pub last-flows : (i : ℕ) → i ≤ road .links → traceOf width road (simulated width corridor demands words) .flows (road .steps) i ≡ noFlow
+  -- and, of request 04, the off-ramp flow: x × b / 65,536 of its f,
+  pub exits : width ≡ 5 → (k i : ℕ) → k < road .steps → i ≤ road .links → exitWord road (simulated width corridor demands words) k i ≡ exit (mainFlow road plan k i) (road .split k i)
+  -- which for a split b of at most 65,536 is f less its through part,
+  pub exits-are-the-rest : width ≡ 5 → (k i : ℕ) → k < road .steps → i ≤ road .links → road .split k i ≤ 65536
+      → exitWord road (simulated width corridor demands words) k i ≡ mainFlow road plan k i - through (mainFlow road plan k i) (road .split k i)
+  pub last-exits : width ≡ 5 → (i : ℕ) → i ≤ road .links → exitWord road (simulated width corridor demands words) (road .steps) i ≡ 0
   -- "and the total cost."
-  pub cost-low : getD (simulated corridor demands words) (traceLength recordWidth (road .links) (road .steps)) 0 ≡ cost road (run road plan) % 4294967296
-  pub cost-high : getD (simulated corridor demands words) (traceLength recordWidth (road .links) (road .steps) + 1) 0 ≡ cost road (run road plan) / 4294967296
+  pub cost-low : getD (simulated width corridor demands words) (traceLength width (road .links) (road .steps)) 0 ≡ cost road (run road plan) % 4294967296
+  pub cost-high : getD (simulated width corridor demands words) (traceLength width (road .links) (road .steps) + 1) 0 ≡ cost road (run road plan) / 4294967296
 
 -- ---- the reader and the writer of a place, which its oldest kind names: in a list the length chooses the kind, in a file its word 0
 
@@ -60,7 +77,7 @@ pub record BlockFiles (place : Kind) (n k : ℕ) : Type 0 where
   pub only-word-0-chooses : (file other : List ℕ) (t i : ℕ) → OneChange file other t i → t * 128 + i ≢ 0 → fileKind place other ≡ fileKind place file
 
 pub record Demand2 : Type 0 where
-  -- for every corridor, demand series and plan, whatever their words
-  pub simulated-record : (corridor demands plan : List ℕ)
-      → SimulatedRecord corridor demands plan (roadOf corridor demands) (planOf (roadOf corridor demands) plan)
+  -- for every corridor, demand series and plan, whatever their words, and both kinds of record
+  pub simulated-record : (width : ℕ) → Width width → (corridor demands plan : List ℕ)
+      → SimulatedRecord width corridor demands plan (roadOf corridor demands) (planOf (roadOf corridor demands) plan)
   pub block-files : (place : Kind) (n k : ℕ) → BlockFiles place n k

@@ -34,7 +34,7 @@ twoSteps arrivals first second = 2 ∷ 30 ∷ 0 ∷ 10 ∷ 0 ∷ 0 ∷ 0 ∷ arr
 
 pub record DownstreamCases : Type 0 where
   -- rates 100, 60, full limits: f2 = min(100, 70); next n2 = 200 + 100 − 70; cost 400
-  pub simulates : (simulateAnswer corridor (demandsWith 70) plan 26 ≡ Accepted) × (simulated corridor (demandsWith 70) plan ≡ recordOut 70 230 400)
+  pub simulates : (simulateAnswer corridor (demandsWith 70) plan 26 ≡ Accepted) × (simulated 4 corridor (demandsWith 70) plan ≡ recordOut 70 230 400)
   -- that record: link 2 at full speed
   pub full : (convertAnswer corridor (demandsWith 70) (recordOut 70 230 400) 6 ≡ Accepted) × (converted corridor (demandsWith 70) (recordOut 70 230 400) ≡ planOut 32768)
   -- f2 = 40: held, limit 13,108
@@ -44,8 +44,8 @@ pub record DownstreamCases : Type 0 where
   -- and with free traffic past link 2: held, limit 23,266
   pub free : (convertAnswer corridor demands (recordOut 71 229 399) 6 ≡ Accepted) × (converted corridor demands (recordOut 71 229 399) ≡ planOut 23266)
   -- 0 lets nothing out, and 65,536 is case 1
-  pub closed : simulated corridor (demandsWith 0) plan ≡ recordOut 0 300 470
-  pub unhindered : simulated corridor (demandsWith 65536) plan ≡ record-1
+  pub closed : simulated 4 corridor (demandsWith 0) plan ≡ recordOut 0 300 470
+  pub unhindered : simulated 4 corridor (demandsWith 65536) plan ≡ record-1
   -- a word out of range is refusal 5 at its step and node 2; that of step 0 comes before Q of step 1, which comes before that of step 1
   pub out-of-range : limits corridor (demandsWith 65537) ≡ Refused 5 0 2
   pub first-word : limits corridor (twoSteps 65537 65537 0) ≡ Refused 5 0 2

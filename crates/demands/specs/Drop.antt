@@ -95,7 +95,7 @@ oneCongested =
 
 pub record DropCases : Type 0 where
   -- rates 100, 60, full limits, 80 discharged above n = 190: f2 = 80; next n2 = 200 + 100 − 80; cost 390
-  pub simulates : (simulateAnswer (corridorWith 80 190) demands plan 26 ≡ Accepted) × (simulated (corridorWith 80 190) demands plan ≡ recordOut 80 220 390)
+  pub simulates : (simulateAnswer (corridorWith 80 190) demands plan 26 ≡ Accepted) × (simulated 4 (corridorWith 80 190) demands plan ≡ recordOut 80 220 390)
   -- that record: link 2 at full speed; without the drop it is held, limit 26,215
   pub full : (convertAnswer (corridorWith 80 190) demands (recordOut 80 220 390) 6 ≡ Accepted) × (converted (corridorWith 80 190) demands (recordOut 80 220 390) ≡ planOut 32768)
   pub held-without : (convertAnswer corridor demands (recordOut 80 220 390) 6 ≡ Accepted) × (converted corridor demands (recordOut 80 220 390) ≡ planOut 26215)
@@ -104,14 +104,14 @@ pub record DropCases : Type 0 where
   -- f2 = 81: refusal 8 at node 2
   pub too-much : convertAnswer (corridorWith 80 190) demands (recordOut 81 219 389) 6 ≡ Refused 8 0 2
   -- n2 = 200 is above a drop density of 199, and at one of 200 is case 1
-  pub above : simulated (corridorWith 80 199) demands plan ≡ recordOut 80 220 390
-  pub at : simulated (corridorWith 80 200) demands plan ≡ record-1
+  pub above : simulated 4 (corridorWith 80 199) demands plan ≡ recordOut 80 220 390
+  pub at : simulated 4 (corridorWith 80 200) demands plan ≡ record-1
   -- a dropped capacity of 0 lets nothing out, and one of F is case 1 at any density
-  pub closed : simulated (corridorWith 0 190) demands plan ≡ recordOut 0 300 470
-  pub unhindered : simulated (corridorWith 100 0) demands plan ≡ record-1
+  pub closed : simulated 4 (corridorWith 0 190) demands plan ≡ recordOut 0 300 470
+  pub unhindered : simulated 4 (corridorWith 100 0) demands plan ≡ record-1
   -- request 01 with it: the lesser of 80 and the flow that may leave link 2
-  pub less-beyond : simulated (corridorWith 80 190) (demandsWith 70) plan ≡ recordOut 70 230 400
-  pub more-beyond : simulated (corridorWith 80 190) (demandsWith 90) plan ≡ recordOut 80 220 390
+  pub less-beyond : simulated 4 (corridorWith 80 190) (demandsWith 70) plan ≡ recordOut 70 230 400
+  pub more-beyond : simulated 4 (corridorWith 80 190) (demandsWith 90) plan ≡ recordOut 80 220 390
   -- refusal 2 at its node: dropped capacity above F, drop density above J, and either of node 0
   pub capacity-high : limits (corridorWith 101 190) demands ≡ Refused 2 0 2
   pub density-high : limits (corridorWith 80 401) demands ≡ Refused 2 0 2
@@ -120,5 +120,5 @@ pub record DropCases : Type 0 where
   pub entry-density : limits (corridorDrops 0 1 100 400 80 190) demands ≡ Refused 2 0 0
   pub first-node : limits (corridorDrops 0 0 101 400 80 190) demands ≡ Refused 2 0 1
   -- the same demand recovers without the drop, and stays congested with it
-  pub recovers : (simulateAnswer onePlain oneDemands onePlan 58 ≡ Accepted) × (simulated onePlain oneDemands onePlan ≡ oneRecovers)
-  pub congested : (simulateAnswer oneDropped oneDemands onePlan 58 ≡ Accepted) × (simulated oneDropped oneDemands onePlan ≡ oneCongested)
+  pub recovers : (simulateAnswer onePlain oneDemands onePlan 58 ≡ Accepted) × (simulated 4 onePlain oneDemands onePlan ≡ oneRecovers)
+  pub congested : (simulateAnswer oneDropped oneDemands onePlan 58 ≡ Accepted) × (simulated 4 oneDropped oneDemands onePlan ≡ oneCongested)

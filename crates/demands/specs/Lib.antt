@@ -5,3 +5,4 @@ pub mod Cases
 pub mod Downstream
 pub mod Completed
 pub mod Drop
+pub mod Exits
