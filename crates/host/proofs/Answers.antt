@@ -13,12 +13,13 @@ use Rattle.tables.specs.First.{firstPlace}
 use Rattle.tables.proofs.Answers.{small-refusal, small-orElse, small-unless, orElse-assoc}
 use Rattle.tables.proofs.First.{small-node, small-place}
 use Rattle.tables.proofs.Tests.{and-iff}
+use Rattle.road.specs.declared.Exit.{Exit}
 use Rattle.road.specs.Corridor.{Link, Ramp, NodeState, Node, Road, Plan, Flows, nodes}
-use Rattle.road.specs.Step.{Junction, sending, outflow}
+use Rattle.road.specs.Step.{Junction, sending, exit, outflow}
 use Rattle.road.specs.Run.{junction, next, cost}
-use Rattle.lists.specs.Words.{linksOf, stepsOf, roadOf, planOf, recordWidth, traceOf, traceLength, planLength, recordLength}
+use Rattle.lists.specs.Words.{linksOf, stepsOf, roadOf, traceOf, exitsOf, planLength, widthOf}
 use Rattle.faults.specs.Lists.{implies, noLink, linkInRange, linkFault, rampFault, startFault, demandFault, planFault}
-use Rattle.lists.specs.Refusals.{fresh, linkRefusal, rampRefusal, startRefusal, demandRefusal, ranges, bounds, planBounds, sizes}
+use Rattle.lists.specs.Refusals.{recordSized, fresh, linkRefusal, rampRefusal, startRefusal, demandRefusal, ranges, bounds, planBounds, sizes}
 use Rattle.lists.proofs.Limits.{sizes-iff}
 use Rattle.simulate.specs.Simulate.{simulateSizes, simulateAnswer, simulated}
 use Rattle.convert.specs.Convert.{checkAnswer, convertAnswer, normalRefusal, normalAnswer}
@@ -30,8 +31,8 @@ use Rattle.block.specs.Kinds.{listLength, fileKind}
 use Rattle.block.specs.Calls.{toldFits, fileAnswer, readAnswer, writeAnswer}
 use Rattle.block.proofs.Bounds.{file-bounded, read-bounded, write-bounded}
 use Rattle.block.proofs.Calls.{told-is, length-high}
-use Rattle.files.specs.Files.{corridorIn, demandsIn, recordIn, filesAnswer, readThenCheck, checkFiles, convertFiles}
-use Rattle.faults.specs.Records.{sameState, unlessThen, fixedFault, stepFault, totalFault}
+use Rattle.files.specs.Files.{corridorIn, demandsIn, fileWidth, recordIn, filesAnswer, readThenCheck, checkFiles, convertFiles}
+use Rattle.faults.specs.Records.{sameState, exitKept, unlessThen, fixedFault, nextFault, stepFault, totalFault}
 use Rattle.convert.specs.Refusals.{costFault, fixedAt, stepAt, judged}
 
 -- ---- each fault's number is small
@@ -72,35 +73,38 @@ plan-small : (link : Link) (ramp : Ramp) (rate limit : ℕ) → planFault link r
 unfolding planFault
 plan-small link ramp rate limit = small-unless (leb rate (ramp .capacity) && leb limit (link .fullSpeed)) 6 (omega arith)
 
-fixed-small : (road : Road) (k i : ℕ) (state : NodeState) (flows : Flows) → fixedFault road k i state flows ≤ 255
+fixed-small : (road : Road) (k i : ℕ) (state : NodeState) (flows : Flows) (said : Exit) → fixedFault road k i state flows said ≤ 255
 unfolding fixedFault
-fixed-small road k i state flows =
+fixed-small road k i state flows said =
     small-unless
     (implies (eqb k 0) (sameState state (road .node i .start))
-    && (implies (eqb k (road .steps)) (eqb (flows .main) 0 && eqb (flows .ramp) 0)
-    && (implies (eqb i 0) (eqb (state .vehicles) 0 && eqb (flows .main) 0)
-    && implies (eqb i (road .links)) (eqb (state .queue) 0 && eqb (flows .ramp) 0))))
+    && (implies (eqb k (road .steps)) (eqb (flows .main) 0 && (eqb (flows .ramp) 0 && exitKept said 0))
+    && (implies (eqb i 0) (eqb (state .vehicles) 0 && (eqb (flows .main) 0 && exitKept said 0))
+    && implies (eqb i (road .links)) (eqb (state .queue) 0 && (eqb (flows .ramp) 0 && exitKept said 0)))))
     7 (omega arith)
 
 then-small : (t : Bool) (x rest : ℕ) → x ≤ 255 → rest ≤ 255 → unlessThen t x rest ≤ 255
 then-small true x rest h k = k
 then-small false x rest h k = h
 
--- five tests in turn
-steps-small : (a b c d e : Bool) → unlessThen a 8 (unlessThen b 9 (unlessThen c 10 (unlessThen d 11 (unless e 12)))) ≤ 255
-steps-small a b c d e =
-    then-small a 8 _ (omega arith)
-    (then-small b 9 _ (omega arith) (then-small c 10 _ (omega arith) (then-small d 11 _ (omega arith) (small-unless e 12 (omega arith)))))
+next-small : (moved after : NodeState) (queueLimit : ℕ) → nextFault moved after queueLimit ≤ 255
+unfolding nextFault
+next-small moved after queueLimit =
+    then-small (sameState after moved) 11 _ (omega arith) (small-unless (leb (after .queue) queueLimit) 12 (omega arith))
 
-step-small : (junction : Junction) (flows : Flows) (moved after : NodeState) → stepFault junction flows moved after ≤ 255
+-- four tests in turn, and then the rest
+steps-small : (a b c d : Bool) (rest : ℕ) → rest ≤ 255 → unlessThen a 8 (unlessThen b 9 (unlessThen c 10 (unlessThen d 11 rest))) ≤ 255
+steps-small a b c d rest h =
+    then-small a 8 _ (omega arith) (then-small b 9 _ (omega arith) (then-small c 10 _ (omega arith) (then-small d 11 rest (omega arith) h)))
+
+step-small : (junction : Junction) (flows : Flows) (said : Exit) (moved after : NodeState) → stepFault junction flows said moved after ≤ 255
 unfolding stepFault
-step-small junction flows moved after =
+step-small junction flows said moved after =
     steps-small
     (leb (flows .main) (sending (junction .link) (junction .state .vehicles) (junction .link .fullSpeed)))
     (leb (outflow flows (junction .split)) (junction .supply))
     (leb (flows .ramp) (min (junction .state .queue) (junction .ramp .capacity)))
-    (sameState after moved)
-    (leb (after .queue) (junction .ramp .queueLimit))
+    (exitKept said (exit (flows .main) (junction .split))) _ (next-small moved after (junction .ramp .queueLimit))
 
 total-small : (total low high : ℕ) → totalFault total low high ≤ 255
 unfolding totalFault
@@ -128,11 +132,12 @@ module _ (road : Road) (few : road .links ≤ 64) (short : road .steps ≤ 1440)
   unfolding judged
   judged-small width words =
       let trace = traceOf width road words in
-      small-orElse (firstPlace (suc (road .steps)) (nodes road) (fixedAt road trace)) _
-      (small-place (suc (road .steps)) (nodes road) _ (omega arith) (omega arith) (λ k i. fixed-small road k i (trace .state k i) (trace .flows k i)))
-      (small-orElse (firstPlace (road .steps) (nodes road) (stepAt road trace)) _
+      let said : ℕ → ℕ → Exit = exitsOf width road words in
+      small-orElse (firstPlace (suc (road .steps)) (nodes road) (fixedAt road trace said)) _
+      (small-place (suc (road .steps)) (nodes road) _ (omega arith) (omega arith) (λ k i. fixed-small road k i (trace .state k i) (trace .flows k i) (said k i)))
+      (small-orElse (firstPlace (road .steps) (nodes road) (stepAt road trace said)) _
       (small-place (road .steps) (nodes road) _ (omega arith) (omega arith)
-      (λ k i. step-small (junction road k (trace .state k) i) (trace .flows k i) (next road k (trace .state k) (trace .flows k) i) (trace .state (suc k) i)))
+      (λ k i. step-small (junction road k (trace .state k) i) (trace .flows k i) (said k i) (next road k (trace .state k) (trace .flows k) i) (trace .state (suc k) i)))
       (small-refusal (costFault width road words) 0 0 (cost-small width road words) (omega arith) (omega arith)))
 
 -- a wrong length is refused before any place is named
@@ -152,9 +157,9 @@ module _ (corridor demands : List ℕ) where
   unfolding roadOf
   bounds-fit plan e = let s = sizes-iff corridor demands .0 e in bounds-small (roadOf corridor demands) (omega (arith, s .links)) (omega (arith, s .steps)) _
 
-  judged-fit : (words : List ℕ) → sizes corridor demands ≡ true → Small (judged recordWidth (roadOf corridor demands) words)
+  judged-fit : (width : ℕ) (words : List ℕ) → sizes corridor demands ≡ true → Small (judged width (roadOf corridor demands) words)
   unfolding roadOf
-  judged-fit words e = let s = sizes-iff corridor demands .0 e in judged-small (roadOf corridor demands) (omega (arith, s .links)) (omega (arith, s .steps)) recordWidth words
+  judged-fit width words e = let s = sizes-iff corridor demands .0 e in judged-small (roadOf corridor demands) (omega (arith, s .links)) (omega (arith, s .steps)) width words
 
   pub simulate-small : (plan : List ℕ) (room : ℕ) → Small (simulateAnswer corridor demands plan room)
   unfolding simulateAnswer simulateSizes
@@ -165,16 +170,16 @@ module _ (corridor demands : List ℕ) where
   pub check-small : (words : List ℕ) → Small (checkAnswer corridor demands words)
   unfolding checkAnswer
   check-small words =
-      sized-small (sizes corridor demands && eqb (length words) (recordLength recordWidth (linksOf corridor) (stepsOf demands))) _
-      (λ e. let s = and-iff (sizes corridor demands) _ .0 e .0 in small-orElse (ranges (roadOf corridor demands)) _ (ranges-fit s) (judged-fit words s))
+      sized-small (sizes corridor demands && recordSized (linksOf corridor) (stepsOf demands) (length words)) _
+      (λ e. let s = and-iff (sizes corridor demands) _ .0 e .0 in small-orElse (ranges (roadOf corridor demands)) _ (ranges-fit s) (judged-fit (widthOf corridor demands (length words)) words s))
 
   pub convert-small : (words : List ℕ) (room : ℕ) → Small (convertAnswer corridor demands words room)
   unfolding convertAnswer
   convert-small words room =
       sized-small
       (sizes corridor demands
-      && (eqb (length words) (recordLength recordWidth (linksOf corridor) (stepsOf demands)) && eqb room (planLength (linksOf corridor) (stepsOf demands)))) _
-      (λ e. let s = and-iff (sizes corridor demands) _ .0 e .0 in small-orElse (ranges (roadOf corridor demands)) _ (ranges-fit s) (judged-fit words s))
+      && (recordSized (linksOf corridor) (stepsOf demands) (length words) && eqb room (planLength (linksOf corridor) (stepsOf demands)))) _
+      (λ e. let s = and-iff (sizes corridor demands) _ .0 e .0 in small-orElse (ranges (roadOf corridor demands)) _ (ranges-fit s) (judged-fit (widthOf corridor demands (length words)) words s))
 
   pub normal-small : (plan : List ℕ) (work room : ℕ) → Small (normalAnswer corridor demands plan work room)
   unfolding normalAnswer normalRefusal
@@ -182,14 +187,15 @@ module _ (corridor demands : List ℕ) where
       let fits : Bool =
       sizes corridor demands
       && (eqb (length plan) (planLength (linksOf corridor) (stepsOf demands))
-      && (eqb work (recordLength recordWidth (linksOf corridor) (stepsOf demands)) && eqb room (planLength (linksOf corridor) (stepsOf demands)))) in
+      && (recordSized (linksOf corridor) (stepsOf demands) work && eqb room (planLength (linksOf corridor) (stepsOf demands)))) in
       let rest : Answer = orElse (ranges (roadOf corridor demands)) (planBounds corridor demands plan) in
-      let last : Answer = judged recordWidth (roadOf corridor demands) (simulated corridor demands plan) in
+      let width : ℕ = widthOf corridor demands work in
+      let last : Answer = judged width (roadOf corridor demands) (simulated width corridor demands plan) in
       subst Small (sym (orElse-assoc (sized fits) rest last))
       (sized-small fits (orElse rest last)
       (λ e.
       let s = and-iff (sizes corridor demands) _ .0 e .0 in
-      small-orElse rest last (small-orElse (ranges (roadOf corridor demands)) _ (ranges-fit s) (bounds-fit plan s)) (judged-fit (simulated corridor demands plan) s)))
+      small-orElse rest last (small-orElse (ranges (roadOf corridor demands)) _ (ranges-fit s) (bounds-fit plan s)) (judged-fit width (simulated width corridor demands plan) s)))
 
 -- ---- those of the readers and the writers
 
@@ -197,7 +203,7 @@ bounded-small : (rows : ℕ) (a : Answer) → Bounded rows a → rows ≤ 65535 
 bounded-small rows a b h = record { number = omega (arith, b .number); row = omega (arith, b .row); node = omega (arith, b .node); named = b .named }
 
 pub read-small : (kind : Kind) (n k : ℕ) (file : List ℕ) (room : ℕ) → Small (readAnswer kind n k file room)
-read-small kind n k file room = bounded-small 2998 _ (read-bounded kind n k file room) (omega arith)
+read-small kind n k file room = bounded-small 3747 _ (read-bounded kind n k file room) (omega arith)
 
 pub write-small : (kind : Kind) (n k : ℕ) (words : List ℕ) (room : ℕ) → Small (writeAnswer kind n k words room)
 write-small kind n k words room = bounded-small 0 _ (write-bounded kind n k words room) (omega arith)
@@ -206,7 +212,7 @@ write-small kind n k words room = bounded-small 0 _ (write-bounded kind n k word
 
 file-small : (kind : Kind) (n k : ℕ) (file : List ℕ) → toldFits n k ≡ true → Small (fileAnswer kind n k file)
 file-small kind n k file t =
-    let l : listLength kind n k ≤ 374662 = length-high kind n k (told-is n k _ refl t) in
+    let l : listLength kind n k ≤ 468327 = length-high kind n k (told-is n k _ refl t) in
     bounded-small (blocksFor (listLength kind n k)) _ (file-bounded kind n k file) (omega arith)
 
 module _ (n k : ℕ) (corridor demands recorded : List ℕ) where
@@ -215,8 +221,8 @@ module _ (n k : ℕ) (corridor demands recorded : List ℕ) where
   then-check-small t =
       small-orElse (filesAnswer n k corridor demands recorded) _
       (small-orElse (fileAnswer (fileKind Corridor corridor) n k corridor) _ (file-small (fileKind Corridor corridor) n k corridor t)
-      (small-orElse (fileAnswer (fileKind Demands demands) n k demands) _ (file-small (fileKind Demands demands) n k demands t) (file-small Record n k recorded t)))
-      (check-small (corridorIn n corridor) (demandsIn n k demands) (recordIn recordWidth n k recorded))
+      (small-orElse (fileAnswer (fileKind Demands demands) n k demands) _ (file-small (fileKind Demands demands) n k demands t) (file-small (fileKind Record recorded) n k recorded t)))
+      (check-small (corridorIn n corridor) (demandsIn n k demands) (recordIn (fileWidth recorded) n k recorded))
 
   pub check-files-small : Small (checkFiles n k corridor demands recorded)
   unfolding checkFiles

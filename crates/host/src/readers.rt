@@ -45,8 +45,8 @@ pub extern "C" fn gigorchid_write_demands(n: u32, k: u32, words: &[u32], file: &
 
 #[no_mangle]
 pub extern "C" fn gigorchid_read_record(n: u32, k: u32, file: &[u8], words: &mut [u32]) -> u32
-    ensures answered { λ r. ⌜ r ≡ hostNumber (readAnswer Record n k (now (file .entry)) (length (now (words .entry)))) ⌝ }
-    ensures lent { λ _. ⌜ now (words .exit) ≡ wordsRead Record n k (now (file .entry)) (now (words .entry)) ⌝ }
+    ensures answered { λ r. ⌜ r ≡ hostNumber (readAnswer (fileKind Record (now (file .entry))) n k (now (file .entry)) (length (now (words .entry)))) ⌝ }
+    ensures lent { λ _. ⌜ now (words .exit) ≡ wordsRead (fileKind Record (now (file .entry))) n k (now (file .entry)) (now (words .entry)) ⌝ }
 {
     let answer = block::read_record(n, k, file, words);
     inner::number(answer)
@@ -54,8 +54,8 @@ pub extern "C" fn gigorchid_read_record(n: u32, k: u32, file: &[u8], words: &mut
 
 #[no_mangle]
 pub extern "C" fn gigorchid_write_record(n: u32, k: u32, words: &[u32], file: &mut [u8]) -> u32
-    ensures answered { λ r. ⌜ r ≡ hostNumber (writeAnswer Record n k (now (words .entry)) (length (now (file .entry)))) ⌝ }
-    ensures lent { λ _. ⌜ now (file .exit) ≡ fileWritten Record n k (now (words .entry)) (now (file .entry)) ⌝ }
+    ensures answered { λ r. ⌜ r ≡ hostNumber (writeAnswer (listKind Record n k (length (now (words .entry)))) n k (now (words .entry)) (length (now (file .entry)))) ⌝ }
+    ensures lent { λ _. ⌜ now (file .exit) ≡ fileWritten (listKind Record n k (length (now (words .entry)))) n k (now (words .entry)) (now (file .entry)) ⌝ }
 {
     let answer = block::write_record(n, k, words, file);
     inner::number(answer)

@@ -1,6 +1,6 @@
 -- Laws of the input's answer: each case as a branch of the code meets it, and what an accepted input keeps.
 use Prim.Native.Nat.{ℕ, suc, _+_, _-_, _*_, _/_, _%_, _≤_, _<_}
-use mathlib.Core.Bool.{Bool, true, false, _&&_, and-true}
+use mathlib.Core.Bool.{Bool, true, false, cond, _&&_, and-true}
 use mathlib.Core.List.{List}
 use mathlib.Core.Logic.{_≢_}
 use mathlib.Core.Path.{_≡_, refl, sym, ap, ap₂, subst, subst₂, _∙_}
@@ -16,23 +16,24 @@ use Rattle.tables.proofs.Answers.{orElse-accepts, refusal-unless}
 use Rattle.tables.proofs.Tabulate.{tabulate-at}
 use Rattle.road.specs.Corridor.{Road}
 use Rattle.road.specs.Run.{cost}
-use Rattle.lists.specs.Words.{linksOf, stepsOf, roadOf, recordWidth, traceOf, traceLength, recordLength}
+use Rattle.lists.specs.Words.{linksOf, stepsOf, roadOf, traceOf, traceLength, recordLength}
 use Rattle.faults.specs.Lists.{within}
 use Rattle.lists.proofs.Limits.{sized-iff}
 use Rattle.faults.proofs.Tests.{within-holds}
 use Rattle.convert.proofs.Facts.{judged-iff}
+use Rattle.payload.specs.Word.{wordAt}
 use Rattle.payload.specs.File.{blocksFor, wordIn, payloadWord}
 use Rattle.payload.specs.Reading.{tested}
 use Rattle.block.specs.declared.Kind.{Kind}
-use Rattle.block.specs.declared.Kind.the-variants.{Demands}
-use Rattle.block.specs.Kinds.{Told, listLength, fileKind}
+use Rattle.block.specs.declared.Kind.the-variants.{Corridor, CorridorDrop, Demands, DemandsDownstream, Record, RecordExits, Plan}
+use Rattle.block.specs.Kinds.{Told, kindNumber, listLength, later, kindWord, fileKind}
 use Rattle.block.specs.Calls.{toldFits}
-use Rattle.files.specs.Files.{corridorCount, corridorIn, demandsIn, recordIn, readThenCheck}
-use Rattle.files.specs.Fits.{FilesFit, Accepts}
+use Rattle.files.specs.Files.{corridorCount, corridorIn, demandsIn, fileWidth, recordIn, readThenCheck}
+use Rattle.files.specs.Fits.{Holds, FilesFit, Accepts}
 use Rattle.files.proofs.Answers.{accepts}
-use Rattle.files.proofs.Contents.{own-links, own-steps}
+use Rattle.files.proofs.Contents.{own-links, own-steps, cost-inside}
 use Rattle.printed.specs.declared.inner.input.Layout.{Layout}
-use Rattle.printed.specs.Input.{linksIn, stepsIn, demandsBlock, demandsKind, recordBlock, endBlock, corridorFile, demandsFile, recordFile, inputAnswer}
+use Rattle.printed.specs.Input.{linksIn, stepsIn, demandsBlock, demandsKind, recordBlock, recordKind, endBlock, corridorFile, demandsFile, recordFile, inputAnswer}
 use Rattle.printed.specs.Text.{refusedLine, textFor, printed}
 use Rattle.printed.specs.Fits.{filesLeft, stepsLeft, Laid, statedCost}
 
@@ -115,15 +116,36 @@ module _ (input : List ℕ) (n : ℕ) (is : n ≡ linksIn input) (block : ℕ) (
       pub steps-good : a ≡ filesLeft input → t ≡ true → a ≡ stepsLeft input
       steps-good q h = q ∙ test-holds 0 _ _ (sym steps-answer ∙ h) ∙ test-holds 13 _ _ passed
 
--- ---- once K is good: where the files stand
+-- ---- the kind of a file that starts at a place of the input
 
 -- what is left of an input from a place on
 rest-is : (at : ℕ) (input : List ℕ) → take (length input - at) (drop at input) ≡ drop at input
 rest-is at input = take-all (length input - at) (drop at input) (simp length-drop (omega arith))
 
--- so a file that starts there tells its kind
-pub rest-kind : (at : ℕ) (input : List ℕ) (kind : Kind) → kind ≡ fileKind Demands (take (length input - at) (drop at input)) → kind ≡ fileKind Demands (drop at input)
-rest-kind at input kind e = e ∙ ap (fileKind Demands) (rest-is at input)
+-- tells the kind of a file that starts there: `oldest` is that of its place
+pub rest-kind : (oldest : Kind) (at : ℕ) (input : List ℕ) (kind : Kind) → kind ≡ fileKind oldest (take (length input - at) (drop at input)) → kind ≡ fileKind oldest (drop at input)
+rest-kind oldest at input kind e = e ∙ ap (fileKind oldest) (rest-is at input)
+
+-- no kind has the number 0, which stands for none
+none-said : (kind : Kind) → kind ≡ cond (eqb 0 (kindNumber (later kind))) (later kind) kind
+unfolding kindNumber later
+none-said Corridor = refl
+none-said CorridorDrop = refl
+none-said Demands = refl
+none-said DemandsDownstream = refl
+none-said Record = refl
+none-said RecordExits = refl
+none-said Plan = refl
+
+-- nothing is left past the input's end, so that the oldest kind stays
+pub past-kind : (kind : Kind) (at : ℕ) (input : List ℕ) → length input < at → kind ≡ fileKind kind (drop at input)
+unfolding fileKind kindWord
+past-kind kind at input h =
+    none-said kind
+    ∙ ap (λ (t : Bool). cond (eqb (cond t (wordAt (drop at input) 0) 0) (kindNumber (later kind))) (later kind) kind)
+    (sym (lt-leb 4 (length (drop at input)) (simp length-drop (omega arith))))
+
+-- ---- once K is good: where the files start
 
 module _ (input : List ℕ) (n k : ℕ) (links : n ≡ linksIn input) (steps : k ≡ stepsIn input) (kind : Kind) (chosen : kind ≡ demandsKind input) (block : ℕ) (starts : block ≡ demandsBlock input) (at : Layout) (laid : Laid block kind n k at) where
   demands-at : at .demands ≡ demandsBlock input * 512
@@ -133,11 +155,13 @@ module _ (input : List ℕ) (n k : ℕ) (links : n ≡ linksIn input) (steps : k
   unfolding recordBlock
   record-at = laid .recorded ∙ (λ z. (starts z + blocksFor (listLength (chosen z) (links z) (steps z))) * 512)
 
-  end-at : at .end ≡ endBlock input * 512
-  unfolding endBlock recordBlock
-  end-at =
-      laid .end
-      ∙ (λ z. (starts z + blocksFor (listLength (chosen z) (links z) (steps z)) + blocksFor (recordLength recordWidth (links z) (steps z))) * 512)
+  -- `last` is the record's kind, and `blocks` how many it has, as calls gave them
+  end-at : (last : Kind) → last ≡ fileKind Record (drop (at .recorded) input) → (blocks : ℕ) → blocks ≡ blocksFor (listLength last n k) → at .recorded + blocks * 512 ≡ endBlock input * 512
+  unfolding endBlock recordKind
+  end-at last e blocks b =
+      let own : last ≡ recordKind input = e ∙ ap (λ (x : ℕ). fileKind Record (drop x input)) record-at in
+      let many : blocks ≡ blocksFor (listLength (recordKind input) (linksIn input) (stepsIn input)) = b ∙ (λ z. blocksFor (listLength (own z) (links z) (steps z))) in
+      omega (arith, record-at, many)
 
   -- the files as the code lends them are the input's, whatever is asked of them
   parts-are {ℓ} : {X : Type ℓ} (f : ℕ → ℕ → List ℕ → List ℕ → List ℕ → X)
@@ -148,14 +172,14 @@ module _ (input : List ℕ) (n k : ℕ) (links : n ≡ linksIn input) (steps : k
       f (links z) (steps z) (take (demands-at z) input) (take (record-at z - demands-at z) (drop (demands-at z) input))
       ((rest-is (at .recorded) input ∙ ap (λ (x : ℕ). drop x input) record-at) z)
 
-  module _ (a : Answer) where
-    pub files-left-over : a ≡ Refused 14 0 0 → length input ≢ at .end → a ≡ filesLeft input
-    files-left-over e h = e ∙ test-fails 13 _ _ (ne-eqb (length input) (endBlock input * 512) (λ q. h (q ∙ sym end-at)))
+  module _ (a : Answer) (last : Kind) (own : last ≡ fileKind Record (drop (at .recorded) input)) (blocks : ℕ) (many : blocks ≡ blocksFor (listLength last n k)) where
+    pub files-left-over : a ≡ Refused 14 0 0 → length input ≢ at .recorded + blocks * 512 → a ≡ filesLeft input
+    files-left-over e h = e ∙ test-fails 13 _ _ (ne-eqb (length input) (endBlock input * 512) (λ q. h (q ∙ sym (end-at last own blocks many))))
 
-    pub files-read : length input ≡ at .end
+    pub files-read : length input ≡ at .recorded + blocks * 512
         → a ≡ readThenCheck n k (take (at .demands) input) (take (at .recorded - at .demands) (drop (at .demands) input)) (take (length input - at .recorded) (drop (at .recorded) input))
         → a ≡ filesLeft input
-    files-read h e = e ∙ parts-are readThenCheck ∙ test-holds 13 _ _ (eq-eqb (length input) (endBlock input * 512) (h ∙ end-at))
+    files-read h e = e ∙ parts-are readThenCheck ∙ test-holds 13 _ _ (eq-eqb (length input) (endBlock input * 512) (h ∙ end-at last own blocks many))
 
 -- ---- what an accepted input keeps
 
@@ -238,31 +262,39 @@ module _ (input : List ℕ) (kept : Kept input) (at : Layout) (laid : Laid (dema
 
 -- ---- the cost that an accepted record states
 
--- low and high are the two words as the code has them
-pub stated-told : (links steps at w low high : ℕ) (file : List ℕ) → at ≡ (steps + 1) * w → w ≡ suc links * recordWidth → low ≡ payloadWord file at → high ≡ payloadWord file (at + 1)
-    → high * 4294967296 + low ≡ statedCost links steps file
-stated-told links steps at w low high file e q l h =
-    let p : at ≡ traceLength recordWidth links steps = omega (arith, ap (λ (x : ℕ). (steps + 1) * x) q) in
-    ap₂ (λ (x y : ℕ). x * 4294967296 + y) (h ∙ ap (λ (n : ℕ). payloadWord file (n + 1)) p) (l ∙ ap (payloadWord file) p)
+-- at is where it starts, w how many words a row has, and width how many a node has, as the code has them
+module _ (links steps width at w : ℕ) (file : List ℕ) (told : width ≡ fileWidth file) (e : at ≡ (steps + 1) * w) (q : w ≡ suc links * width) where
+  wide : w ≡ suc links * fileWidth file
+  wide = q ∙ ap (λ (x : ℕ). suc links * x) told
+
+  pub stated-inside : Holds (recordLength (fileWidth file) links steps) file → blocksFor (at + 2) * 512 ≡ length file
+  stated-inside h = cost-inside (fileWidth file) links steps at w file e wide h
+
+  -- low and high are the two words
+  pub stated-told : (low high : ℕ) → low ≡ payloadWord file at → high ≡ payloadWord file (at + 1) → high * 4294967296 + low ≡ statedCost links steps file
+  stated-told low high l h =
+      let p : at ≡ traceLength (fileWidth file) links steps = omega (arith, ap (λ (x : ℕ). (steps + 1) * x) wide) in
+      ap₂ (λ (x y : ℕ). x * 4294967296 + y) (h ∙ ap (λ (n : ℕ). payloadWord file (n + 1)) p) (l ∙ ap (payloadWord file) p)
 
 pub cost-stated : (links steps : ℕ) (corridor demands recorded : List ℕ) → FilesFit links steps corridor demands recorded → Accepts links steps corridor demands recorded
     → statedCost links steps recorded
     ≡ cost (roadOf (corridorIn links corridor) (demandsIn links steps demands))
-    (traceOf recordWidth (roadOf (corridorIn links corridor) (demandsIn links steps demands)) (recordIn recordWidth links steps recorded))
+    (traceOf (fileWidth recorded) (roadOf (corridorIn links corridor) (demandsIn links steps demands)) (recordIn (fileWidth recorded) links steps recorded))
 unfolding roadOf
 cost-stated links steps corridor demands recorded fit accepted =
+    let width : ℕ = fileWidth recorded in
     let road : Road = roadOf (corridorIn links corridor) (demandsIn links steps demands) in
-    let total : ℕ = cost road (traceOf recordWidth road (recordIn recordWidth links steps recorded)) in
-    let costs = judged-iff recordWidth road (recordIn recordWidth links steps recorded) .0 (accepted .judges) .costs in
-    let place : traceLength recordWidth links steps ≡ traceLength recordWidth (linksOf (corridorIn links corridor)) (stepsOf (demandsIn links steps demands)) =
-    sym (ap₂ (traceLength recordWidth) (own-links links steps corridor demands recorded fit) (own-steps links steps corridor demands recorded fit)) in
-    let low : payloadWord recorded (traceLength recordWidth links steps) ≡ total % 4294967296 =
-    sym (tabulate-at (recordLength recordWidth links steps) (payloadWord recorded) (traceLength recordWidth links steps) 0 (omega arith))
-    ∙ ap (λ (n : ℕ). getD (recordIn recordWidth links steps recorded) n 0) place
+    let total : ℕ = cost road (traceOf width road (recordIn width links steps recorded)) in
+    let costs = judged-iff width road (recordIn width links steps recorded) .0 (accepted .judges) .costs in
+    let place : traceLength width links steps ≡ traceLength width (linksOf (corridorIn links corridor)) (stepsOf (demandsIn links steps demands)) =
+    sym (ap₂ (traceLength width) (own-links links steps corridor demands recorded fit) (own-steps links steps corridor demands recorded fit)) in
+    let low : payloadWord recorded (traceLength width links steps) ≡ total % 4294967296 =
+    sym (tabulate-at (recordLength width links steps) (payloadWord recorded) (traceLength width links steps) 0 (omega arith))
+    ∙ ap (λ (n : ℕ). getD (recordIn width links steps recorded) n 0) place
     ∙ costs .low in
-    let high : payloadWord recorded (traceLength recordWidth links steps + 1) ≡ total / 4294967296 =
-    sym (tabulate-at (recordLength recordWidth links steps) (payloadWord recorded) (traceLength recordWidth links steps + 1) 0 (omega arith))
-    ∙ ap (λ (n : ℕ). getD (recordIn recordWidth links steps recorded) (n + 1) 0) place
+    let high : payloadWord recorded (traceLength width links steps + 1) ≡ total / 4294967296 =
+    sym (tabulate-at (recordLength width links steps) (payloadWord recorded) (traceLength width links steps + 1) 0 (omega arith))
+    ∙ ap (λ (n : ℕ). getD (recordIn width links steps recorded) (n + 1) 0) place
     ∙ costs .high in
     omega arith
 

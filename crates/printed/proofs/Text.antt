@@ -18,8 +18,9 @@ use Rattle.road.specs.declared.Speed.{Speed}
 use Rattle.road.specs.Run.{cost}
 use Rattle.settings.specs.declared.Setting.{Setting}
 use Rattle.settings.specs.declared.Setting.the-variants.{Full, Held}
-use Rattle.lists.specs.Words.{nodeAt, roadOf, recordWidth, traceOf}
+use Rattle.lists.specs.Words.{nodeAt, roadOf, traceOf}
 use Rattle.convert.specs.Convert.{settingAt}
+use Rattle.files.specs.Files.{recordIn}
 use Rattle.printed.specs.declared.inner.input.Layout.{Layout}
 use Rattle.printed.specs.Input.{linksIn, stepsIn, demandsBlock, demandsKind, corridorFile, demandsFile, recordFile}
 use Rattle.printed.specs.Text.{decimalIn, decimal, spaced, planWord, letter, inputRoad, inputTrace, headLine, settingLine, filesLine, planLine}
@@ -150,19 +151,20 @@ module _ (text : List ℕ) (step identifier number full : ℕ) (setting : Settin
   unfolding settingLine letter
   held-line held s t = t ∙ (λ z. settingLine step (e z) full (sym s z))
 
--- the corridor's words are unpacked into a list
-pub line-read : (text list corridor demands recorded : List ℕ) (k i : ℕ) (setting : Setting) → corridor ≡ list
-    → setting ≡ settingAt (roadOf list demands) (traceOf recordWidth (roadOf list demands) recorded) k i
+-- the corridor's words are unpacked into a list, and w is the record's width as the code has it
+pub line-read : (text list corridor demands : List ℕ) (w width links steps : ℕ) (recorded : List ℕ) (k i : ℕ) (setting : Setting) → corridor ≡ list → w ≡ width
+    → setting ≡ settingAt (roadOf list demands) (traceOf w (roadOf list demands) (recordIn w links steps recorded)) k i
     → text ≡ settingLine k (nodeAt list i .identifier) (nodeAt list i .link .fullSpeed) setting
     → text
-    ≡ settingLine k (nodeAt corridor i .identifier) (nodeAt corridor i .link .fullSpeed) (settingAt (roadOf corridor demands) (traceOf recordWidth (roadOf corridor demands) recorded) k i)
-line-read text list corridor demands recorded k i setting e s t =
+    ≡ settingLine k (nodeAt corridor i .identifier) (nodeAt corridor i .link .fullSpeed)
+    (settingAt (roadOf corridor demands) (traceOf width (roadOf corridor demands) (recordIn width links steps recorded)) k i)
+line-read text list corridor demands w width links steps recorded k i setting e q s t =
     t
     ∙ ap (settingLine k (nodeAt list i .identifier) (nodeAt list i .link .fullSpeed)) s
-    ∙ ap
-    (λ (x : List ℕ).
-    settingLine k (nodeAt x i .identifier) (nodeAt x i .link .fullSpeed) (settingAt (roadOf x demands) (traceOf recordWidth (roadOf x demands) recorded) k i))
-    (sym e)
+    ∙ ap₂
+    (λ (x : List ℕ) (y : ℕ).
+    settingLine k (nodeAt x i .identifier) (nodeAt x i .link .fullSpeed) (settingAt (roadOf x demands) (traceOf y (roadOf x demands) (recordIn y links steps recorded)) k i))
+    (sym e) q
 
 -- a text is the line of node i at step k of three files
 abbrev pub LineOf : List ℕ → ℕ → ℕ → ℕ → ℕ → List ℕ → List ℕ → List ℕ → Type 0

@@ -1,4 +1,4 @@
--- What the functions ask and answer in between: the tails of the input's answer, where its files stand, the cost that the record states, and a
+-- What the functions ask and answer in between: the tails of the input's answer, where its files start, the cost that the record states, and a
 -- text put into a lent buffer.
 use Prim.Native.Nat.{ℕ, _+_, _*_, _≤_}
 use mathlib.Core.List.{List, _++_}
@@ -7,13 +7,13 @@ use lib.Dec.{leb, eqb}
 use lib.ListN.{length, take}
 use Rattle.tables.specs.declared.Answer.{Answer}
 use Rattle.tables.specs.Answer.{orElse, sized}
-use Rattle.lists.specs.Words.{recordWidth, traceLength, recordLength}
+use Rattle.lists.specs.Words.{traceLength}
 use Rattle.faults.specs.Lists.{within}
 use Rattle.payload.specs.File.{blocksFor, payloadWord}
 use Rattle.payload.specs.Reading.{tested}
 use Rattle.block.specs.declared.Kind.{Kind}
 use Rattle.block.specs.Kinds.{listLength}
-use Rattle.files.specs.Files.{readThenCheck}
+use Rattle.files.specs.Files.{fileWidth, readThenCheck}
 use Rattle.printed.specs.declared.inner.input.Layout.{Layout}
 use Rattle.printed.specs.Input.{linksIn, stepsIn, demandsBlock, endBlock, corridorFile, demandsFile, recordFile}
 
@@ -31,19 +31,19 @@ stepsLeft input =
     orElse (tested (leb (demandsBlock input * 512 + 12) (length input)) 14 0)
     (orElse (sized (within 1 1440 (stepsIn input))) (filesLeft input))
 
--- ---- where the files of N links and K steps stand, with demands of this kind that start with this block
+-- ---- where the files of N links and K steps start, with demands of this kind that start with this block
 
 pub record Laid (block : ℕ) (kind : Kind) (n k : ℕ) (layout : Layout) : Type 0 where
   pub links : layout .links ≡ n
   pub steps : layout .steps ≡ k
   pub demands : layout .demands ≡ block * 512
   pub recorded : layout .recorded ≡ (block + blocksFor (listLength kind n k)) * 512
-  pub end : layout .end ≡ (block + blocksFor (listLength kind n k) + blocksFor (recordLength recordWidth n k)) * 512
 
 -- ---- the cost that a record's file states, in the two words after those of all states
 
 abbrev pub statedCost : ℕ → ℕ → List ℕ → ℕ
-statedCost links steps file = payloadWord file (traceLength recordWidth links steps + 1) * 4294967296 + payloadWord file (traceLength recordWidth links steps)
+statedCost links steps file =
+    payloadWord file (traceLength (fileWidth file) links steps + 1) * 4294967296 + payloadWord file (traceLength (fileWidth file) links steps)
 
 -- ---- text
 

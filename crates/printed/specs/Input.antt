@@ -1,17 +1,16 @@
--- The program's input: a corridor's, the demands' and a record's file, one after another. N, K and the kinds of corridor and demands
--- are taken from the files themselves.
+-- The program's input: a corridor's, the demands' and a record's file, one after another. N, K and the kinds of corridor, demands and
+-- record are taken from the files themselves.
 use Prim.Native.Nat.{ℕ, _+_, _-_, _*_}
 use mathlib.Core.List.{List}
 use lib.Dec.{leb, eqb}
 use lib.ListN.{length, take, drop}
 use Rattle.tables.specs.declared.Answer.{Answer}
 use Rattle.tables.specs.Answer.{orElse, sized}
-use Rattle.lists.specs.Words.{recordWidth, recordLength}
 use Rattle.faults.specs.Lists.{within}
 use Rattle.payload.specs.File.{blocksFor, wordIn}
 use Rattle.payload.specs.Reading.{tested}
 use Rattle.block.specs.declared.Kind.{Kind}
-use Rattle.block.specs.declared.Kind.the-variants.{Demands}
+use Rattle.block.specs.declared.Kind.the-variants.{Demands, Record}
 use Rattle.block.specs.Kinds.{listLength, fileKind}
 use Rattle.files.specs.Files.{corridorCount, readThenCheck}
 
@@ -31,12 +30,9 @@ stepsIn input = wordIn input (demandsBlock input) 2
 unfoldable pub demandsKind : List ℕ → Kind
 demandsKind input = fileKind Demands (drop (demandsBlock input * 512) input)
 
--- the block with which the record starts, and the one past its end
+-- the block with which the record starts
 unfoldable pub recordBlock : List ℕ → ℕ
 recordBlock input = demandsBlock input + blocksFor (listLength (demandsKind input) (linksIn input) (stepsIn input))
-
-unfoldable pub endBlock : List ℕ → ℕ
-endBlock input = recordBlock input + blocksFor (recordLength recordWidth (linksIn input) (stepsIn input))
 
 -- ---- the three files
 
@@ -48,6 +44,16 @@ demandsFile input = take (recordBlock input * 512 - demandsBlock input * 512) (d
 
 abbrev pub recordFile : List ℕ → List ℕ
 recordFile input = drop (recordBlock input * 512) input
+
+-- ---- the end
+
+-- the record's kind: word 0 of its first block chooses, and an input that ends before this word does has a record of kind 3
+unfoldable pub recordKind : List ℕ → Kind
+recordKind input = fileKind Record (recordFile input)
+
+-- the block past the record's end
+unfoldable pub endBlock : List ℕ → ℕ
+endBlock input = recordBlock input + blocksFor (listLength (recordKind input) (linksIn input) (stepsIn input))
 
 -- ---- what is refused
 

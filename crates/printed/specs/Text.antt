@@ -11,9 +11,9 @@ use Rattle.road.specs.Run.{cost}
 use Rattle.settings.specs.declared.Setting.{Setting}
 use Rattle.settings.specs.declared.Setting.the-variants.{Full, Held}
 use Rattle.settings.specs.Setting.{rateIn, limitIn}
-use Rattle.lists.specs.Words.{nodeAt, roadOf, recordWidth, traceOf}
+use Rattle.lists.specs.Words.{nodeAt, roadOf, traceOf}
 use Rattle.convert.specs.Convert.{settingAt}
-use Rattle.files.specs.Files.{corridorIn, demandsIn, recordIn}
+use Rattle.files.specs.Files.{corridorIn, demandsIn, fileWidth, recordIn}
 use Rattle.printed.specs.Input.{linksIn, stepsIn, corridorFile, demandsFile, recordFile, inputAnswer}
 
 -- ---- numbers
@@ -56,7 +56,8 @@ unfoldable pub inputRoad : List ℕ → Road
 inputRoad input = roadOf (corridorIn (linksIn input) (corridorFile input)) (demandsIn (linksIn input) (stepsIn input) (demandsFile input))
 
 unfoldable pub inputTrace : List ℕ → Trace
-inputTrace input = traceOf recordWidth (inputRoad input) (recordIn recordWidth (linksIn input) (stepsIn input) (recordFile input))
+inputTrace input =
+    traceOf (fileWidth (recordFile input)) (inputRoad input) (recordIn (fileWidth (recordFile input)) (linksIn input) (stepsIn input) (recordFile input))
 
 -- steps, nodes, cost
 unfoldable pub headLine : List ℕ → List ℕ
@@ -73,7 +74,7 @@ unfoldable pub filesLine : ℕ → ℕ → List ℕ → List ℕ → List ℕ �
 filesLine links steps corridor demands recorded k i =
     settingLine k (nodeAt (corridorIn links corridor) i .identifier) (nodeAt (corridorIn links corridor) i .link .fullSpeed)
     (settingAt (roadOf (corridorIn links corridor) (demandsIn links steps demands))
-    (traceOf recordWidth (roadOf (corridorIn links corridor) (demandsIn links steps demands)) (recordIn recordWidth links steps recorded)) k i)
+    (traceOf (fileWidth recorded) (roadOf (corridorIn links corridor) (demandsIn links steps demands)) (recordIn (fileWidth recorded) links steps recorded)) k i)
 
 unfoldable pub planLine : List ℕ → ℕ → ℕ → List ℕ
 planLine input k i =

@@ -1,10 +1,9 @@
-// The answer to an input: N, K and the kinds of corridor and demands are taken from the files themselves, then the files are read in turn and the record is checked.
+// The answer to an input: N, K and the kinds of corridor, demands and record are taken from the files themselves, then the files are read in turn and the record is checked.
 ghost use mathlib.Core.Path.{_≡_};
-ghost use Prim.Native.Nat.{_*_, _≤_};
-ghost use lib.ListN.{length, drop};
+ghost use Prim.Native.Nat.{_≤_};
+ghost use lib.ListN.{drop};
 ghost use Rattle.tables.specs.declared.Answer.the-variants.{Accepted};
 ghost use Rattle.payload.specs.File.{blocksFor};
-ghost use Rattle.block.specs.declared.Kind.the-variants.{Demands};
 ghost use Rattle.block.specs.Kinds.{Told, listLength, fileKind};
 ghost use Rattle.files.specs.Files.{corridorCount};
 ghost use Rattle.printed.specs.Input.{linksIn, stepsIn, demandsBlock, demandsKind, inputAnswer};
@@ -19,19 +18,18 @@ use payload::inner::words;
 use tables::Answer;
 use tables::refusal;
 
-// N, K and the places in bytes where the demands start, where the record starts and where it ends.
+// N, K and the places in bytes where the demands and the record start.
 pub struct Layout {
     pub links: u32,
     pub steps: u32,
     pub demands: usize,
     pub recorded: usize,
-    pub end: usize,
 }
 
 // How many blocks a kind's file has.
 fn blocks_of(kind: Kind, n: u32, k: u32) -> usize
     requires { ⌜ Told n k ⌝ }
-    ensures { λ r. ⌜ (r ≡ blocksFor (listLength kind n k)) × (r ≤ 2998) ⌝ }
+    ensures { λ r. ⌜ (r ≡ blocksFor (listLength kind n k)) × (r ≤ 3747) ⌝ }
 {
     reading::blocks_for(kinds::length_of(kind, n, k))
 }
@@ -44,33 +42,32 @@ fn corridor_blocks(input: &[u8], n: u32) -> usize
     reading::blocks_for(unpacked::corridor_count(n as usize, input))
 }
 
-// The kind of the demands that start with a block of the input.
-fn demands_kind(input: &[u8], block: usize) -> Kind
-    requires { ⌜ block * 512 ≤ length (now input) ⌝ }
-    ensures { λ r. ⌜ r ≡ fileKind Demands (drop (block * 512) (now (input .entry))) ⌝ }
+// The kind of the file that starts at a byte of the input, where `kind` is the oldest of its place; it is this one where the input ends before.
+fn kind_at(kind: Kind, input: &[u8], at: usize) -> Kind
+    ensures { λ r. ⌜ r ≡ fileKind kind (drop at (now (input .entry))) ⌝ }
 {
-    let at = block * 512;
-    kinds::file_kind(Kind::Demands, &input[at..])
+    if input.len() < at {
+        return kind;
+    }
+    kinds::file_kind(kind, &input[at..])
 }
 
-// Where the files stand, with demands of a kind that start with a block.
+// Where the files start, with demands of a kind that start with a block.
 fn layout_of(block: usize, kind: Kind, n: u32, k: u32) -> Layout
     requires { ⌜ Told n k × (block ≤ 6) ⌝ }
     ensures { λ r. ⌜ Laid block kind n k r ⌝ }
 {
     let demands = block * 512;
     let recorded = demands + blocks_of(kind, n, k) * 512;
-    let end = recorded + blocks_of(Kind::Record, n, k) * 512;
     Layout {
         links: n,
         steps: k,
         demands,
         recorded,
-        end,
     }
 }
 
-// Where the files of an accepted input stand.
+// Where the files of an accepted input start.
 pub fn layout_in(input: &[u8]) -> Layout
     requires { ⌜ inputAnswer (now input) ≡ Accepted ⌝ }
     ensures { λ r. ⌜ Laid (demandsBlock (now (input .entry))) (demandsKind (now (input .entry))) (linksIn (now (input .entry))) (stepsIn (now (input .entry))) r ⌝ }
@@ -78,7 +75,7 @@ pub fn layout_in(input: &[u8]) -> Layout
     let n = words::word_at(input, 2);
     let block = corridor_blocks(input, n);
     let steps = words::word_at(input, block * 128 + 2);
-    layout_of(block, demands_kind(input, block), n, steps)
+    layout_of(block, kind_at(Kind::Demands, input, block * 512), n, steps)
 }
 
 // What is left to refuse once N and K are good.
@@ -91,7 +88,8 @@ fn files_left(input: &[u8], block: usize, kind: Kind, n: u32, k: u32) -> Answer
     let at = layout_of(block, kind, n, k);
     let demands = at.demands;
     let recorded = at.recorded;
-    if input.len() == at.end {
+    let recorded_kind = kind_at(Kind::Record, input, recorded);
+    if input.len() == recorded + blocks_of(recorded_kind, n, k) * 512 {
         return answers::read_then_check(
             n,
             k,
@@ -115,7 +113,8 @@ fn steps_left(input: &[u8], n: u32) -> Answer
     }
     let k = words::word_at(input, block * 128 + 2);
     if calls::told_fits(n, k) {
-        return files_left(input, block, demands_kind(input, block), n, k);
+        let kind = kind_at(Kind::Demands, input, block * 512);
+        return files_left(input, block, kind, n, k);
     }
     refusal(1, 0, 0)
 }

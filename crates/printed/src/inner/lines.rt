@@ -5,10 +5,10 @@ ghost use Prim.Native.Nat.{_≤_, _<_};
 ghost use lib.ListN.{length, take};
 ghost use Rattle.io.specs.Counts.{Counts};
 ghost use Rattle.tables.specs.declared.Answer.the-variants.{Accepted};
-ghost use Rattle.lists.specs.Words.{nodeAt, roadOf, recordWidth, traceOf, recordLength};
+ghost use Rattle.lists.specs.Words.{nodeAt, roadOf, traceOf, recordLength};
 ghost use Rattle.lists.specs.Fits.{CorridorFits};
 ghost use Rattle.convert.specs.Convert.{settingAt};
-ghost use Rattle.files.specs.Files.{demandsIn, recordIn};
+ghost use Rattle.files.specs.Files.{demandsIn, fileWidth, recordIn};
 ghost use Rattle.files.specs.Fits.{Holds, FilesFit, Accepts, FilesKept};
 ghost use Rattle.printed.specs.Input.{linksIn, stepsIn, inputAnswer};
 ghost use Rattle.printed.specs.Fits.{statedCost};
@@ -45,10 +45,11 @@ pub fn refused_line(number: u32, row: u32, node: u32, out: &mut [u8]) -> usize
 
 // The cost that a record states in its two last words.
 fn stated_cost(links: usize, steps: usize, recorded: &[u8]) -> u64
-    requires { ⌜ (links ≤ 64) × (steps ≤ 1440) × Holds (recordLength recordWidth links steps) (now recorded) ⌝ }
+    requires { ⌜ (links ≤ 64) × (steps ≤ 1440) × Holds (recordLength (fileWidth (now recorded)) links steps) (now recorded) ⌝ }
     ensures { λ r. ⌜ r ≡ statedCost links steps (now (recorded .entry)) ⌝ }
 {
-    let wide = scans::state_words(links, words::RECORD_WIDTH);
+    let width = unpacked::record_width(recorded);
+    let wide = scans::state_words(links, width);
     let at = scans::table_length(steps + 1, wide);
     let low = place::word_of(recorded, at);
     let high = place::word_of(recorded, at + 1);
@@ -120,21 +121,21 @@ fn setting_of(
     links: usize,
     steps: usize,
     recorded: &[u8],
+    width: usize,
     k: usize,
     i: usize,
 ) -> Setting
-    requires { ⌜ FilesKept links steps (now corridor) (now demands) (now recorded) ⌝ }
+    requires { ⌜ FilesKept width links steps (now corridor) (now demands) (now recorded) ⌝ }
     requires { ⌜ (k < steps) × (i ≤ links) ⌝ }
-    ensures { λ r. ⌜ r ≡ settingAt (roadOf (now (corridor .entry)) (demandsIn links steps (now (demands .entry)))) (traceOf recordWidth (roadOf (now (corridor .entry)) (demandsIn links steps (now (demands .entry)))) (recordIn recordWidth links steps (now (recorded .entry)))) k i ⌝ }
+    ensures { λ r. ⌜ r ≡ settingAt (roadOf (now (corridor .entry)) (demandsIn links steps (now (demands .entry)))) (traceOf width (roadOf (now (corridor .entry)) (demandsIn links steps (now (demands .entry)))) (recordIn width links steps (now (recorded .entry)))) k i ⌝ }
 {
-    let width = words::RECORD_WIDTH;
     let narrow = (links + 1) * 2;
     let wide = scans::state_words(links, width);
     let mut demand_room = [0u32; 130];
     let demand = &mut demand_room[..narrow];
-    let mut room = [0u32; 260];
+    let mut room = [0u32; 325];
     let row = &mut room[..wide];
-    unpacked::step_rows(demands, recorded, links, steps, k, demand, row);
+    unpacked::step_rows(demands, recorded, links, steps, width, k, demand, row);
     let downstream = unpacked::downstream(demands, links, steps, k);
     convert::inner::plans::setting_at(corridor, links, demand, downstream, row, width, i)
 }
@@ -160,7 +161,8 @@ fn files_line(
     let mut room = [0u32; 716];
     let list = &mut room[..count];
     place::unpack(corridor, 0, list);
-    let setting = setting_of(list, demands, links, steps, recorded, k, i);
+    let width = unpacked::record_width(recorded);
+    let setting = setting_of(list, demands, links, steps, recorded, width, k, i);
     node_line(list, links, i, k as u64, setting, out)
 }
 

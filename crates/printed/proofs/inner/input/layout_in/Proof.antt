@@ -19,13 +19,6 @@ word-at-requires-2 c κs =
     let w = c .before in
     omega (arith, kept-block _ (input-kept _ (w .before .before .pre)) _ (w .word-at .ensures) _ (c .corridor-blocks .ensures .0))
 
-demands-kind-requires : tie.Need-demands-kind-requires
-unfolding linksIn
-demands-kind-requires c κs =
-    let b = c .before in
-    let w = b .before in
-    omega (arith, kept-block _ (input-kept _ (w .before .before .pre)) _ (w .word-at .ensures) _ (b .corridor-blocks .ensures .0))
-
 layout-of-requires : tie.Need-layout-of-requires
 unfolding linksIn
 layout-of-requires c κs =
@@ -39,7 +32,7 @@ returns c =
     let b = c .before .before .before in
     let w = b .before in
     kept-laid _ (input-kept _ (w .before .before .pre)) _ (w .word-at .ensures) _ (b .corridor-blocks .ensures .0) _ (c .before .before .word-at2 .ensures) _
-    (c .before .demands-kind .ensures) _ (c .layout-of .ensures)
+    (c .before .kind-at .ensures) _ (c .layout-of .ensures)
 
 pub layout-in-spec : {M : Type 1} → statement M
 layout-in-spec =
@@ -50,6 +43,7 @@ layout-in-spec =
     (λ c. search needs)
     (λ c. search needs)
     word-at-requires-2
-    demands-kind-requires
+    (λ c. search needs)
+    (λ c κs. search needs)
     layout-of-requires
     returns)

@@ -13,7 +13,7 @@ files-left-requires c κs =
       (told-is _ _ _ (c .before .before .told-fits .ensures) (c .before .if2 .taken), b .corridor-blocks .ensures .1),
       (
         (k .pre .1, steps-are _ _ (k .pre .1) _ (b .corridor-blocks .ensures .0) _ (w .word-at .ensures)),
-        (start _ _ (k .pre .1) _ (b .corridor-blocks .ensures .0), kind-is _ _ (k .pre .1) _ (b .corridor-blocks .ensures .0) _ (c .demands-kind .ensures)),
+        (start _ _ (k .pre .1) _ (b .corridor-blocks .ensures .0), kind-is _ _ (k .pre .1) _ (b .corridor-blocks .ensures .0) _ (c .kind-at .ensures)),
       ),
     )
 
@@ -39,6 +39,7 @@ steps-left-spec =
     (λ c. search needs)
     (λ c κs. search needs)
     (λ c κs. search needs)
+    (λ c. search needs)
     (λ c κs. search needs)
     files-left-requires
     returns-2

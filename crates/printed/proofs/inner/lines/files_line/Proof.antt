@@ -16,14 +16,15 @@ unpack-requires c κs =
 
 setting-of-requires : tie.Need-setting-of-requires
 setting-of-requires c κs =
-    let u = c .before .before .before in
+    let w = c .before in
+    let u = w .before .before .before in
     let f = u .before .before .before in
     let k = f .before .before .before .before .before in
-    (list-kept _ _ _ _ _ (k .pre .0) _ _ (u .unpack .ensures) (simp length-take (omega (arith, f .corridor-count .ensures))) (k .pre .1 .0), (k .pre .1 .1 .0, k .pre .1 .1 .1))
+    (list-kept _ _ _ _ _ (k .pre .0) _ _ (u .unpack .ensures) (simp length-take (omega (arith, f .corridor-count .ensures))) (k .pre .1 .0) _ (w .record-width .ensures .0), (k .pre .1 .1 .0, k .pre .1 .1 .1))
 
 node-line-requires : tie.Need-node-line-requires
 node-line-requires c κs =
-    let u = c .before .before .before .before .before .before in
+    let u = c .before .before .before .before .before .before .before in
     let f = u .before .before .before in
     let k = f .before .before .before .before .before in
     (list-corridor _ _ _ _ _ (k .pre .0) _ _ (u .unpack .ensures) (simp length-take (omega (arith, f .corridor-count .ensures))), (k .pre .1 .1 .1, k .pre .1 .1 .2))
@@ -33,10 +34,11 @@ unfolding filesLine
 returns c =
     let n = c .before .before .before in
     let s = n .before .before .before in
-    let u = s .before .before .before .before in
+    let w = s .before .before in
+    let u = w .before .before .before in
     let f = u .before .before .before in
     let k = f .before .before .before .before .before in
-    (line-read _ _ _ _ _ _ _ _ (corridor-read _ _ _ _ _ (k .pre .0) _ _ (u .unpack .ensures) (simp length-take (omega (arith, f .corridor-count .ensures)))) (s .setting-of .ensures) (n .node-line .ensures .0), n .node-line .ensures .1)
+    (line-read _ _ _ _ _ _ _ _ _ _ _ _ (corridor-read _ _ _ _ _ (k .pre .0) _ _ (u .unpack .ensures) (simp length-take (omega (arith, f .corridor-count .ensures)))) (w .record-width .ensures .0) (s .setting-of .ensures) (n .node-line .ensures .0), n .node-line .ensures .1)
 
 pub files-line-spec : {M : Type 1} → statement M
 files-line-spec =
@@ -46,6 +48,7 @@ files-line-spec =
     (λ c. search needs)
     (λ c. simp length-take (omega arith))
     unpack-requires
+    (λ c κs. search needs)
     setting-of-requires
     node-line-requires
     (λ c. search needs)

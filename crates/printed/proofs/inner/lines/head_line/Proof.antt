@@ -4,7 +4,8 @@ use native.Mathlib.Omega.{arith}
 use denote.Ref.{now}
 use lib.ListN.{length}
 use borrow.Author.Needs.{needs}
-use Rattle.lists.specs.Words.{recordWidth, recordLength}
+use Rattle.lists.specs.Words.{recordLength}
+use Rattle.files.specs.Files.{fileWidth}
 use Rattle.files.specs.Fits.{Holds}
 use Rattle.printed.specs.Text.{planWord}
 use Rattle.printed.proofs.Input.{input-kept, in-order, lent}
@@ -19,7 +20,7 @@ stated-cost-requires : tie.Need-stated-cost-requires
 stated-cost-requires c κs =
     let l = c .before .before .before in
     let kept = input-kept _ (l .before .before .before .pre .0) in
-    lent _ kept _ (l .layout-in .ensures) (λ n k corridor demands recorded. (n ≤ 64) × (k ≤ 1440) × Holds (recordLength recordWidth n k) recorded)
+    lent _ kept _ (l .layout-in .ensures) (λ n k corridor demands recorded. (n ≤ 64) × (k ≤ 1440) × Holds (recordLength (fileWidth recorded) n k) recorded)
     (kept .told .linksHigh, kept .told .stepsHigh, kept .fit .recordHolds)
 
 returns : tie.Need-returns

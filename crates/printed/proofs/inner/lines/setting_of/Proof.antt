@@ -14,7 +14,7 @@ step-rows-requires : tie.Need-step-rows-requires
 step-rows-requires c κs =
     let k = c .before .before .before .before .before .before .before .before in
     let files = k .pre .0 .files in (
-      (files .ready .corridorFits .few, files .ready .demandsFit .short, k .pre .1 .0),
+      (files .ready .corridorFits .few, files .ready .demandsFit .short, files .ready .wide, k .pre .1 .0),
       ((files .demandsHold, files .recordHolds), (simp length-take (omega arith), simp length-take (omega (arith, c .before .before .before .before .state-words .ensures)))),
     )
 
