@@ -1,6 +1,6 @@
 // The readers and writers of block files, with what they say. A call is told five numbers: kind, N, K, words and bytes.
-// Kinds 1 and 10 are both corridors, kinds 2 and 5 both demands, with one reader and one writer each: the file chooses its kind,
-// or the list by its length.
+// Kinds 1 and 10 are both corridors, kinds 2 and 5 both demands, kinds 3 and 7 both records, with one reader and one writer each:
+// the file chooses its kind, or the list by its length.
 use crate::bytes;
 use tables::Answer;
 use tables::is_refused;
@@ -13,7 +13,7 @@ fn write(five: &[u32], words: &[u32], file: &mut [u8]) -> Answer {
     match content::word(five, 0) {
         1 | 10 => block::write_corridor(n, k, words, file),
         2 | 5 => block::write_demands(n, k, words, file),
-        3 => block::write_record(n, k, words, file),
+        3 | 7 => block::write_record(n, k, words, file),
         _ => block::write_plan(n, k, words, file),
     }
 }
@@ -24,7 +24,7 @@ fn read(five: &[u32], file: &[u8], words: &mut [u32]) -> Answer {
     match content::word(five, 0) {
         1 | 10 => block::read_corridor(n, k, file, words),
         2 | 5 => block::read_demands(n, k, file, words),
-        3 => block::read_record(n, k, file, words),
+        3 | 7 => block::read_record(n, k, file, words),
         _ => block::read_plan(n, k, file, words),
     }
 }

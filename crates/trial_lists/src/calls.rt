@@ -1,5 +1,5 @@
 // The public calls on word lists: each prints its name, its answer and whether the lists lent to it were kept.
-// A list that a call fills stands in a function of its own, with room for K = 1,441 at N = 1.
+// A list that a call fills stands in a function of its own, with room for K = 1,441 at N = 1, a record's for kind 7.
 use trial::content;
 use trial::content::LENT_WORD;
 use trial::line;
@@ -18,14 +18,23 @@ fn say_filled(told: &[u8], call: u8, name: &[u8], list: &[u32], width: usize) {
     }
 }
 
+// The words of each row of a record that a call filled, 4 in kind 3 and 5 in kind 7: its length divided by its rows, one for each
+// state and node. The cost's two words are fewer than the rows, so they leave the quotient as it is.
+fn row_words(corridor: &[u32], demands: &[u32], record: &[u32]) -> usize {
+    let nodes = content::word(corridor, 0) as usize + 1;
+    let states = content::word(demands, 0) as usize + 1;
+    record.len() / nodes / states
+}
+
 pub fn simulated(told: &[u8], corridor: &[u32], demands: &[u32], plan: &[u32], length: usize) {
-    let mut room = [LENT_WORD; 11538];
+    let mut room = [LENT_WORD; 14422];
     let lent = content::lent_part(&mut room, length);
     let answer = simulate::simulate(corridor, demands, plan, lent);
     say::text(b" simulate ");
     say::answer(answer);
     content::say_kept(lent);
-    say_filled(told, b's', b", record", lent, 4);
+    let width = row_words(corridor, demands, lent);
+    say_filled(told, b's', b", record", lent, width);
 }
 
 pub fn checked(corridor: &[u32], demands: &[u32], words: &[u32]) {
@@ -46,10 +55,11 @@ pub fn converted(told: &[u8], corridor: &[u32], demands: &[u32], words: &[u32], 
 }
 
 pub fn normal(told: &[u8], corridor: &[u32], demands: &[u32], plan: &[u32], lengths: &[u32]) {
-    let mut room = [LENT_WORD; 11538];
+    let mut room = [LENT_WORD; 14422];
     let work = content::lent_part(&mut room, content::length(lengths, 4));
     normal_form(told, corridor, demands, plan, lengths, work);
-    say_filled(told, b'l', b", work record", work, 4);
+    let width = row_words(corridor, demands, work);
+    say_filled(told, b'l', b", work record", work, width);
 }
 
 // The work record first, then the plan.

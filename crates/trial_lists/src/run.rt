@@ -32,6 +32,7 @@ fn given(section: &[u8], told: &[u8], lengths: &[u32]) {
 }
 
 // The record is the section's, or the plan's where none is told, and then come the changes of the case.
+// It has room for kind 7 with K = 1,441 at N = 1.
 fn proposed(
     section: &[u8],
     told: &[u8],
@@ -40,7 +41,7 @@ fn proposed(
     demands: &mut [u32],
     plan: &mut [u32],
 ) {
-    let mut room = [0u32; 11538];
+    let mut room = [0u32; 14422];
     let words = content::lent_part(&mut room, content::length(lengths, 3));
     if line::make(words, b'r', section) == 0 {
         simulate::simulate(corridor, demands, plan, words);
