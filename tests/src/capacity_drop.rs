@@ -7,10 +7,9 @@ use crate::calls::{FileCalls, WordCalls};
 use crate::limits::greatest;
 use crate::model::files::{file_bytes, words_of};
 use crate::model::lists::{corridor_of, Node, MOST_LINKS};
-use crate::model::simulate::entry;
-use crate::model::{Input, Kind, Kinds, List, Size, MOST_QUEUE_LIMIT, WHOLE};
+use crate::model::{Entry, Input, Kind, Kinds, List, Record, Size, MOST_QUEUE_LIMIT, WHOLE};
 use crate::random::damage::size;
-use crate::random::sound::{sound_case_of, WordCase};
+use crate::random::sound::{some_kinds, sound_case_of, WordCase};
 use crate::random::Random;
 
 /// What a link may discharge with that many vehicles, written out.
@@ -19,12 +18,13 @@ pub fn discharge(node: &Node, vehicles: u32) -> u64 {
     u64::from(if dropped { node.dropped_capacity } else { node.capacity })
 }
 
-/// State 0, with its flows, of the record that a side gives for a plan of one step.
-fn first_state(calls: &dyn WordCalls, lists: [&[u32]; 3]) -> Vec<u32> {
+/// State 0, with its flows, of the record of that kind that a side gives for a plan of one step.
+fn first_state(calls: &dyn WordCalls, kind: Kind, lists: [&[u32]; 3]) -> Vec<Entry> {
     let [corridor, demands, plan] = lists;
-    let mut record = vec![7; 4 * plan.len() + 2];
+    let size = Size { links: plan.len() / 2 - 1, steps: 1 };
+    let mut record = vec![7; kind.words(size)];
     assert_eq!(calls.simulate(corridor, demands, plan, &mut record), 0);
-    record
+    Record::from_words(kind, size, &record).state(0).to_vec()
 }
 
 /// Node i's flows in one step are those in the corridor of kind 1 whose link i has what it may
@@ -34,20 +34,20 @@ pub fn assert_drop_sets_what_a_link_sends(calls: &dyn WordCalls) {
     let [mut within, mut above] = [0; 2];
     for _ in 0..3_000 {
         let size = size(&mut random, 8, 1);
-        let demands = random.pick(List::Demands.kinds());
-        let kinds = Kinds { corridor: Kind::CapacityDrop, demands };
+        let kinds = Kinds { corridor: Kind::CapacityDrop, ..some_kinds(&mut random) };
         let case = sound_case_of(&mut random, size, kinds, false);
         let input = Input::new(&case.corridor, &case.demands).expect("sound");
         let nodes: Vec<Node> = (0..size.nodes()).map(|i| input.node(i)).collect();
         let dropped = |i: usize| nodes[i].start_vehicles > nodes[i].drop_density;
-        let state = first_state(calls, [&case.corridor, &case.demands, &case.plan]);
+        let lists = [&case.corridor[..], &case.demands, &case.plan];
+        let state = first_state(calls, kinds.record, lists);
         for i in 1..size.nodes() {
             let mut others = nodes.clone();
             others[i].capacity = discharge(&nodes[i], nodes[i].start_vehicles) as u32;
             let corridor = corridor_of(Kind::Corridor, &others);
-            let plain = first_state(calls, [&corridor, &case.demands, &case.plan]);
-            assert_eq!(entry(&state, i), entry(&plain, i), "node {i} of {case:?}");
-            let [_, _, flow, _] = entry(&state, i);
+            let plain = first_state(calls, kinds.record, [&corridor, &case.demands, &case.plan]);
+            assert_eq!(state[i], plain[i], "node {i} of {case:?}");
+            let flow = state[i].flow;
             within += u32::from(!dropped(i) && flow > nodes[i].dropped_capacity.into());
             above += u32::from(dropped(i) && flow > 0 && flow < nodes[i].capacity.into());
         }
@@ -81,8 +81,9 @@ fn taken_in_and_sent(calls: &dyn WordCalls, link: &Node, limit: u32) -> (u64, u6
     let entry_words = [1, 0, 0, 0, 0, capacity, queue, 0, queue];
     let nodes = [Node::from_words(&entry_words), *link];
     let corridor = corridor_of(Kind::CapacityDrop, &nodes);
-    let state = first_state(calls, [&corridor, &[1, 0, 0, 0, 0], &[capacity, 0, 0, limit]]);
-    (entry(&state, 0)[3], entry(&state, 1)[2])
+    let lists = [&corridor[..], &[1, 0, 0, 0, 0], &[capacity, 0, 0, limit]];
+    let state = first_state(calls, Kind::Record, lists);
+    (state[0].ramp_flow, state[1].flow)
 }
 
 /// However many vehicles a link has, it takes in as many as F and its room let it.
@@ -154,7 +155,7 @@ fn near_shared_lengths() -> Vec<(usize, usize, Option<Kind>)> {
 /// All lists for so many links, the corridor cut or extended to that length.
 fn of_length(links: usize, length: usize, kind: Option<Kind>) -> WordCase {
     let corridor = kind.unwrap_or(Kind::Corridor);
-    let kinds = Kinds { corridor, demands: Kind::Demands };
+    let kinds = Kinds { corridor, ..Kinds::OLDEST };
     let mut case = greatest(Size { links, steps: 1 }, kinds, false);
     case.corridor.resize(length, 0);
     case

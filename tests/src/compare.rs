@@ -4,7 +4,7 @@
 use crate::calls::{FileCalls, Program, WordCalls};
 use crate::limits::LimitCase;
 use crate::model::program::{three_files, MOST_BYTES};
-use crate::model::{Input, Quick, Size};
+use crate::model::{Input, Kinds, Quick, Record, Size};
 use crate::random::files::{FileCase, ThreeFiles};
 use crate::random::sound::WordCase;
 use crate::random::Random;
@@ -99,8 +99,8 @@ pub fn compare_words(
         side.check(corridor, demands, record)
     })?;
     tally.answer_on_lists(1, case.kinds, answer);
-    if let Ok(input) = Input::new(corridor, demands) {
-        tally.refusals_by_kind(&input, record, answer);
+    if let Some((input, record)) = input_and_record(case, record) {
+        tally.refusals_by_kind(&input, &record, answer);
     }
     let lengths = [case.lent_plan, 0];
     let (answer, [mut converted, _]) = same_call("convert", sides, lengths, |side, out, _| {
@@ -113,7 +113,7 @@ pub fn compare_words(
         same_call("normal", sides, lengths, |side, work, out| {
             side.normal(corridor, demands, plan, work, out)
         })?;
-    tally.answer_on_lists(3, case.kinds, answer);
+    tally.answer_on_lists(3, lent_kinds(case), answer);
     tally_settings(case, answer, work.list(), normal.list(), tally);
     Ok(())
 }
@@ -128,36 +128,50 @@ fn compare_simulate(
     let (answer, [mut record, _]) = same_call("simulate", sides, lengths, |side, out, _| {
         side.simulate(corridor, demands, plan, out)
     })?;
-    tally.answer_on_lists(0, case.kinds, answer);
-    if let (0, Ok(input)) = (answer, Input::new(corridor, demands)) {
-        tally.happenings(&input, plan, record.list());
+    tally.answer_on_lists(0, lent_kinds(case), answer);
+    if let (0, Some((input, record))) = (answer, input_and_record(case, record.list())) {
+        tally.happenings(&input, plan, &record);
     }
     Ok(())
 }
 
+/// The kinds of a case with that of the lent record in place of the given one's.
+fn lent_kinds(case: &WordCase) -> Kinds {
+    Kinds { record: case.lent_kind, ..case.kinds }
+}
+
+/// A case's corridor and demands, and a record with them, if all their lengths are right.
+fn input_and_record<'a>(case: &'a WordCase, record: &[u32]) -> Option<(Input<'a>, Record)> {
+    let input = Input::new(&case.corridor, &case.demands).ok()?;
+    let record = Record::new(input.size, record).ok()?;
+    Some((input, record))
+}
+
 /// Counts the settings of the plan that came with an answer of 0.
 fn tally_settings(case: &WordCase, answer: u32, record: &[u32], plan: &[u32], tally: &mut Tally) {
-    if let (0, Ok(input)) = (answer, Input::new(&case.corridor, &case.demands)) {
-        tally.settings(&input, record, plan);
+    if let (0, Some((input, record))) = (answer, input_and_record(case, record)) {
+        tally.settings(&input, &record, plan);
     }
 }
 
 /// Names of the readers and writers for messages and counts, by the kind's place among all.
-pub const READERS: [&str; 6] = [
+pub const READERS: [&str; 7] = [
     "read corridor",
     "read demands",
     "read record",
     "read plan",
     "read demands of kind 5",
     "read corridor of kind 10",
+    "read record of kind 7",
 ];
-pub const WRITERS: [&str; 6] = [
+pub const WRITERS: [&str; 7] = [
     "write corridor",
     "write demands",
     "write record",
     "write plan",
     "write demands of kind 5",
     "write corridor of kind 10",
+    "write record of kind 7",
 ];
 
 /// The reader and the writer of one list.

@@ -1,11 +1,11 @@
 //! Demand 3 by trying everything on tiny corridors: all valid plans, and all proposals with flows
-//! up to one beyond what can flow. Asked of any side; the side's own simulator alone says which
-//! records there are and what a rate gives.
+//! up to one beyond what can flow, the records all of one kind, and equal only if all words are.
+//! Asked of any side; the side's own simulator alone says which records there are and what a rate
+//! gives.
 
 use crate::calls::WordCalls;
 use crate::model::lists::{corridor_of, Node};
-use crate::model::simulate::entry;
-use crate::model::{check, Input, Kind, Kinds, Quick, Rules, Size};
+use crate::model::{Input, Kind, Kinds, Quick, Record, Rules, Size};
 use crate::random::records::record_of_flows;
 use crate::random::Random;
 use crate::tally::capacity_drop::WHERE_DROPPED;
@@ -13,10 +13,12 @@ use crate::tally::downstream::WHERE_LESS_MAY_LEAVE;
 use crate::tally::{Tally, SETTINGS};
 use std::collections::{BTreeMap, BTreeSet};
 
-/// A corridor with few settings and its demands.
+/// A corridor with few settings, its demands, and the kind of the records that are proposed, lent
+/// and compared.
 struct Tiny {
     corridor: Vec<u32>,
     demands: Vec<u32>,
+    record_kind: Kind,
 }
 
 /// What the links of a tiny corridor are like.
@@ -84,7 +86,8 @@ fn tiny(random: &mut Random, size: Size, kinds: Kinds, (links, most): (Links, u6
     if kinds.demands == Kind::Downstream {
         demands.extend((0..size.steps).map(|_| random.within(0, most) as u32));
     }
-    Tiny { corridor: corridor_of(kinds.corridor, &nodes), demands }
+    let corridor = corridor_of(kinds.corridor, &nodes);
+    Tiny { corridor, demands, record_kind: kinds.record }
 }
 
 /// Calls `visit` with every list whose word j is one of `choices[j]`.
@@ -128,11 +131,11 @@ fn within_bounds(input: &Input, plan: &[u32]) -> bool {
     })
 }
 
-fn queues_hold(input: &Input, record: &[u32]) -> bool {
+fn queues_hold(input: &Input, record: &Record) -> bool {
     let later = 1..=input.size.steps;
     later
         .flat_map(|k| (0..input.size.nodes()).map(move |i| (k, i)))
-        .all(|(k, i)| record[input.size.record_place(k, i) + 1] <= input.node(i).queue_limit)
+        .all(|(k, i)| record.entry(k, i).queue <= input.node(i).queue_limit.into())
 }
 
 /// A side, and the corridor and demands that it is asked about.
@@ -141,20 +144,25 @@ struct Asked<'a> {
     corridor: &'a [u32],
     demands: &'a [u32],
     input: Input<'a>,
+    record_kind: Kind,
 }
 
 impl<'a> Asked<'a> {
     fn new(calls: &'a dyn WordCalls, tiny: &'a Tiny) -> Asked<'a> {
-        let (corridor, demands) = (&tiny.corridor, &tiny.demands);
+        let Tiny { corridor, demands, record_kind } = tiny;
         let input = Input::new(corridor, demands).expect("of right lengths");
         assert_eq!(Quick::test_input(&input), Ok(()));
-        Asked { calls, corridor, demands, input }
+        Asked { calls, corridor, demands, input, record_kind: *record_kind }
     }
 
     fn simulated(&self, plan: &[u32]) -> Vec<u32> {
-        let mut record = vec![7; self.input.size.record()];
+        let mut record = vec![7; self.record_kind.words(self.input.size)];
         assert_eq!(self.calls.simulate(self.corridor, self.demands, plan, &mut record), 0);
         record
+    }
+
+    fn record_of(&self, words: &[u32]) -> Record {
+        Record::from_words(self.record_kind, self.input.size, words)
     }
 
     /// The demands of step k as those of a corridor of one step.
@@ -169,20 +177,20 @@ impl<'a> Asked<'a> {
 
     /// f and r of node i at step k with that rate and V: the same node in a corridor of one step
     /// that starts in the record's state k.
-    fn at_full_speed(&self, record: &[u32], (k, i): (usize, usize), rate: u32) -> (u32, u32) {
+    fn at_full_speed(&self, record: &Record, (k, i): (usize, usize), rate: u32) -> (u64, u64) {
         let mut corridor = self.corridor.to_vec();
-        for j in 0..self.input.size.nodes() {
-            let now = self.input.size.record_place(k, j);
+        for (j, now) in record.state(k).iter().enumerate() {
             let start = 1 + self.input.corridor_kind.node_words() * j + 7;
-            corridor[start..start + 2].copy_from_slice(&record[now..now + 2]);
+            corridor[start..start + 2].copy_from_slice(&now.words()[..2]);
         }
         let one_step = Size { steps: 1, ..self.input.size };
         let demands = self.demands_of_step(k);
         let mut plan = vec![0; one_step.plan()];
         (plan[2 * i], plan[2 * i + 1]) = (rate, self.input.node(i).full_speed);
-        let mut record = vec![7; one_step.record()];
+        let mut record = vec![7; self.record_kind.words(one_step)];
         assert_eq!(self.calls.simulate(&corridor, &demands, &plan, &mut record), 0);
-        (record[4 * i + 2], record[4 * i + 3])
+        let flows = Record::from_words(self.record_kind, one_step, &record).entry(0, i);
+        (flows.flow, flows.ramp_flow)
     }
 }
 
@@ -191,10 +199,10 @@ fn records_of_valid_plans(asked: &Asked) -> BTreeMap<Vec<u32>, Vec<u32>> {
     let (input, mut records) = (&asked.input, BTreeMap::new());
     for_all(&plan_choices(input), |plan| {
         let record = asked.simulated(plan);
-        let mut work = vec![7; input.size.record()];
+        let mut work = vec![7; record.len()];
         let mut form = vec![7; input.size.plan()];
         let answer = asked.calls.normal(asked.corridor, asked.demands, plan, &mut work, &mut form);
-        assert_eq!(answer == 0, queues_hold(input, &record));
+        assert_eq!(answer == 0, queues_hold(input, &asked.record_of(&record)));
         assert_eq!(work, record);
         if answer == 0 {
             let first = records.entry(record).or_insert(form.clone());
@@ -209,30 +217,30 @@ fn assert_plan(asked: &Asked, record: &[u32], plan: &[u32]) {
     let input = &asked.input;
     assert!(within_bounds(input, plan));
     assert_eq!(asked.simulated(plan), record);
-    assert!(queues_hold(input, record));
+    let record = asked.record_of(record);
+    assert!(queues_hold(input, &record));
     for k in 0..input.size.steps {
         for i in 0..input.size.nodes() {
             let place = input.size.plan_place(k, i);
-            assert_setting(asked, record, (k, i), (plan[place], plan[place + 1]));
+            assert_setting(asked, &record, (k, i), (plan[place], plan[place + 1]));
         }
     }
 }
 
 /// Full with the smallest rate that gives the flows at full speed; held where none from 0 to C
 /// does.
-fn assert_setting(asked: &Asked, record: &[u32], place: (usize, usize), setting: (u32, u32)) {
+fn assert_setting(asked: &Asked, record: &Record, place: (usize, usize), setting: (u32, u32)) {
     let node = asked.input.node(place.1);
-    let [vehicles, _, flow, ramp_flow] =
-        entry(check::state(&asked.input, record, place.0), place.1);
-    let wanted = (flow as u32, ramp_flow as u32);
+    let here = record.entry(place.0, place.1);
+    let wanted = (here.flow, here.ramp_flow);
     let mut rates = 0..=node.ramp_capacity;
     match rates.find(|&rate| asked.at_full_speed(record, place, rate) == wanted) {
         Some(smallest) => assert_eq!(setting, (smallest, node.full_speed)),
         None => {
             assert!(setting.1 < node.full_speed);
             let mut limits = 0..=node.full_speed;
-            let smallest = limits.find(|&v| vehicles * u64::from(v) / 65_536 == flow);
-            assert_eq!((setting.0, Some(setting.1)), (wanted.1, smallest));
+            let smallest = limits.find(|&v| here.vehicles * u64::from(v) / 65_536 == here.flow);
+            assert_eq!((setting.0.into(), Some(setting.1)), (here.ramp_flow, smallest));
         }
     }
 }
@@ -270,7 +278,7 @@ fn try_corridor(asked: &Asked, tally: &mut Tally) -> [u64; 2] {
     let mut counts = [0; 2];
     for (record, form) in &records {
         assert_plan(asked, record, form);
-        tally.settings(input, record, form);
+        tally.settings(input, &asked.record_of(record), form);
         for place in 0..record.len() {
             for by in [1, u32::MAX] {
                 let mut other = record.clone();
@@ -284,6 +292,7 @@ fn try_corridor(asked: &Asked, tally: &mut Tally) -> [u64; 2] {
             let place = input.size.plan_place(k, i);
             (flows[place].into(), flows[place + 1].into())
         });
+        let record = record.words(asked.record_kind);
         counts[usize::from(!assert_proposal(asked, &records, &record))] += 1;
     });
     counts
@@ -318,7 +327,7 @@ fn try_corridors(calls: &dyn WordCalls, seed: u64, batch: Batch) -> Tally {
 }
 
 /// Demand 3 of a side, on corridors of all these sizes made from that seed, one in `part` of them,
-/// as many of each kind of corridor and demands.
+/// as many of each kind of corridor, of demands and of record.
 pub fn assert_demand_three(calls: &dyn WordCalls, seed: u64, part: usize) {
     let batches = [
         (1_000, (1, 1), (Links::Slow, 4)),

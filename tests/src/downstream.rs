@@ -5,35 +5,37 @@
 use crate::calls::WordCalls;
 use crate::capacity_drop::discharge;
 use crate::compare::Series;
-use crate::model::{Input, Kind, Kinds, List, Size, WHOLE};
+use crate::model::{Input, Kind, Kinds, Record, WHOLE};
+use crate::properties::simulated;
 use crate::random::damage::{size, small_case};
-use crate::random::sound::{sound_case_of, WordCase};
+use crate::random::sound::{some_kinds, sound_case_of, WordCase};
 use crate::random::Random;
 use crate::tally::downstream::{AT_LINK_N, WHERE_LESS_MAY_LEAVE};
 use crate::tally::Tally;
 
 /// What link N can send with that many vehicles at a limit: rule 1 written out.
-fn sending(input: &Input, vehicles: u32, limit: u32) -> u64 {
-    let most = discharge(&input.node(input.size.links), vehicles);
-    (u64::from(vehicles) * u64::from(limit) / WHOLE).min(most)
+fn sending(input: &Input, vehicles: u64, limit: u32) -> u64 {
+    let most = discharge(&input.node(input.size.links), vehicles as u32);
+    (vehicles * u64::from(limit) / WHOLE).min(most)
 }
 
 /// Node N in one step: its n, f and r out of a record, its limit out of a plan, and the word of that
 /// step at the end of the demands.
 struct End {
-    vehicles: u32,
-    flow: u32,
-    ramp_flow: u32,
+    vehicles: u64,
+    flow: u64,
+    ramp_flow: u64,
     limit: u32,
     word: u64,
 }
 
-fn ends(size: Size, demands: &[u32], record: &[u32], plan: &[u32]) -> Vec<End> {
+fn ends(record: &Record, demands: &[u32], plan: &[u32]) -> Vec<End> {
+    let size = record.size;
     let words = &demands[demands.len() - size.steps..];
     let ends = words.iter().enumerate().map(|(k, &word)| {
-        let place = size.record_place(k, size.links);
-        let (vehicles, flow, ramp_flow) = (record[place], record[place + 2], record[place + 3]);
+        let end = record.entry(k, size.links);
         let limit = plan[size.plan_place(k, size.links) + 1];
+        let (vehicles, flow, ramp_flow) = (end.vehicles, end.flow, end.ramp_flow);
         End { vehicles, flow, ramp_flow, limit, word: word.into() }
     });
     ends.collect()
@@ -46,15 +48,13 @@ pub fn assert_flow_out_of_link_n_is_exact(calls: &dyn WordCalls) {
     let mut tally = Tally::default();
     for _ in 0..3_000 {
         let size = size(&mut random, 8, 20);
-        let corridor = random.pick(List::Corridor.kinds());
-        let kinds = Kinds { corridor, demands: Kind::Downstream };
+        let kinds = Kinds { demands: Kind::Downstream, ..some_kinds(&mut random) };
         let case = sound_case_of(&mut random, size, kinds, false);
-        let mut record = vec![7; case.lent_record];
-        assert_eq!(calls.simulate(&case.corridor, &case.demands, &case.plan, &mut record), 0);
+        let record = simulated(calls, &case);
         let input = Input::new(&case.corridor, &case.demands).expect("sound");
-        for end in ends(size, &case.demands, &record, &case.plan) {
+        for end in ends(&record, &case.demands, &case.plan) {
             let lesser = sending(&input, end.vehicles, end.limit).min(end.word);
-            assert_eq!((u64::from(end.flow), end.ramp_flow), (lesser, 0));
+            assert_eq!((end.flow, end.ramp_flow), (lesser, 0));
         }
         tally.happenings(&input, &case.plan, &record);
     }
@@ -72,9 +72,10 @@ pub fn assert_link_n_keeps_to_its_words(calls: &dyn WordCalls) {
         let mut plan = vec![7; case.lent_plan];
         match kind_five {
             Some(input) if calls.convert(corridor, demands, record, &mut plan) == 0 => {
-                let ends = ends(input.size, demands, record, &plan);
+                let record = Record::new(input.size, record).expect("an accepted one");
+                let ends = ends(&record, demands, &plan);
                 ends.iter().for_each(|end| assert_end_is_set(&input, end));
-                tally.settings(&input, record, &plan);
+                tally.settings(&input, &record, &plan);
             }
             _ => {}
         }
@@ -87,6 +88,6 @@ pub fn assert_link_n_keeps_to_its_words(calls: &dyn WordCalls) {
 fn assert_end_is_set(input: &Input, end: &End) {
     let full_speed = input.node(input.size.links).full_speed;
     let most = sending(input, end.vehicles, full_speed).min(end.word);
-    assert!(u64::from(end.flow) <= end.word);
-    assert_eq!(end.limit == full_speed, u64::from(end.flow) == most, "limit {}", end.limit);
+    assert!(end.flow <= end.word);
+    assert_eq!(end.limit == full_speed, end.flow == most, "limit {}", end.limit);
 }

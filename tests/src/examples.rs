@@ -1,9 +1,10 @@
 //! The worked cases of document 01, the examples of its refusal table and, in modules of their own,
-//! the like for what may leave link N and for the capacity drop, as tests of any side: the model,
-//! and the host once there is one.
+//! the like for what may leave link N, for the capacity drop and for the off-ramp flow in the
+//! record, as tests of any side: the model, and the host once there is one.
 
 pub mod capacity_drop;
 pub mod downstream;
+pub mod off_ramps;
 
 use crate::calls::{FileCalls, Program, WordCalls};
 use crate::model::files::{words_of, CHECK};
@@ -12,6 +13,7 @@ use crate::random::files::{change_block, file_of, name_kind, ThreeFiles};
 use crate::random::sound::WordCase;
 use capacity_drop::{b_drop, drop_proposed, without_drop};
 use downstream::{b_downstream, downstream_proposed};
+use off_ramps::{b_off_ramps, b_with_a_rest, exit_proposed};
 
 /// Places in B's lists: the words of its nodes, and those of node 1 in the demands.
 const NODE_1: usize = 10;
@@ -45,6 +47,7 @@ pub fn b() -> WordCase {
             &[370, 0],
         ]
         .concat(),
+        lent_kind: Kind::Record,
         lent_record: 26,
         lent_plan: 6,
     }
@@ -59,8 +62,8 @@ pub fn refused(number: u32, row: u32, node: u32) -> u32 {
     row * 65_536 + node * 256 + number
 }
 
-/// Proposes flows: f and r of node 1, f of node 2. The rest of the record follows, written out
-/// here without the model.
+/// Proposes flows: f and r of node 1, f of node 2. The rest of the record, of kind 3, follows,
+/// written out here without the model.
 pub fn propose(case: &mut WordCase, flow_1: u32, ramp_1: u32, flow_2: u32) {
     let width = case.kinds.corridor.node_words();
     let word = |node: usize, word: usize| case.corridor[1 + width * node + word];
@@ -110,6 +113,10 @@ pub fn assert_word_examples(calls: &dyn WordCalls) {
     capacity_drop::assert_cases(calls);
     capacity_drop::assert_refusals(calls);
     capacity_drop::assert_recovery(calls);
+    off_ramps::assert_cases(calls);
+    off_ramps::assert_lent_records(calls);
+    off_ramps::assert_refusals(calls);
+    off_ramps::assert_order(calls);
 }
 
 /// Case 1, and that rates 60 and 50 have one record and so one normal form.
@@ -284,6 +291,8 @@ pub fn assert_file_examples(calls: &dyn FileCalls) {
     assert_files_of_both_kinds(calls, List::Corridor, corridors, Kind::Demands);
     let demands = [b().demands, b_downstream().demands];
     assert_files_of_both_kinds(calls, List::Demands, demands, Kind::Corridor);
+    let records = [b().record, b_off_ramps().record];
+    assert_files_of_both_kinds(calls, List::Record, records, Kind::Plan);
 }
 
 /// Case 10: an otherwise zero block of kind 1 and number 1 has check 4. Such is the second block
@@ -367,10 +376,11 @@ fn assert_files_of_both_kinds(
     }
 }
 
-/// Cases 1, 2, 5 and 11 to 15 through the C host's calls on files, and case 14's record without the
+/// Cases 1, 2, 5 and 11 to 18 through the C host's calls on files, and case 14's record without the
 /// drop.
 fn assert_calls_on_files(calls: &dyn FileCalls) {
     let plan = |limit_2| file_of(Kind::Plan, &[0, 0, 50, 32_768, 0, limit_2]);
+    let plan_with_a_rest = file_of(Kind::Plan, &[0, 0, 26, 32_768, 0, 32_768]);
     let rows = [
         (b(), 0, plan(32_768)),
         (proposed(100, 26), refused(9, 0, 1), vec![7; 512]),
@@ -380,6 +390,9 @@ fn assert_calls_on_files(calls: &dyn FileCalls) {
         (b_drop(), 0, plan(32_768)),
         (without_drop(b_drop()), 0, plan(26_215)),
         (drop_proposed(81), refused(8, 0, 2), vec![7; 512]),
+        (b_off_ramps(), 0, plan(32_768)),
+        (exit_proposed(21), refused(11, 0, 1), vec![7; 512]),
+        (b_with_a_rest(), 0, plan_with_a_rest),
     ];
     for (case, answer, plan_file) in rows {
         let three = ThreeFiles::of_case(b_size(), &case);
@@ -400,6 +413,7 @@ pub fn assert_program_examples(program: &dyn Program) {
     let held_downstream = "PLAN 1 3 430\n0 10 0 0 F\n0 20 50 32768 F\n0 30 0 13108 H\n";
     let full_drop = "PLAN 1 3 390\n0 10 0 0 F\n0 20 50 32768 F\n0 30 0 32768 F\n";
     let held_without = "PLAN 1 3 390\n0 10 0 0 F\n0 20 50 32768 F\n0 30 0 26215 H\n";
+    let full_with_a_rest = "PLAN 1 3 396\n0 10 0 0 F\n0 20 26 32768 F\n0 30 0 32768 F\n";
     let rows = [
         (sound.clone(), full),
         (input(&proposed(60, 50)), held),
@@ -410,6 +424,9 @@ pub fn assert_program_examples(program: &dyn Program) {
         (input(&b_drop()), full_drop),
         (input(&without_drop(b_drop())), held_without),
         (input(&drop_proposed(81)), "REFUSED 8 0 2\n"),
+        (input(&b_off_ramps()), full),
+        (input(&exit_proposed(21)), "REFUSED 11 0 1\n"),
+        (input(&b_with_a_rest()), full_with_a_rest),
         (sound[..1_535].to_vec(), "REFUSED 14 0 0\n"),
         (vec![], "REFUSED 14 0 0\n"),
         (vec![0; 12], "REFUSED 1 0 0\n"),

@@ -12,6 +12,7 @@ pub mod examples;
 pub mod host;
 pub mod limits;
 pub mod model;
+pub mod off_ramps;
 pub mod pages;
 #[cfg(feature = "program")]
 pub mod program;

@@ -2,7 +2,7 @@
 //! amounts, and N and K on either side of their limits while all else is sound.
 
 use crate::model::lists::{corridor_of, Node};
-use crate::model::{Input, Kind, Kinds, Size, MOST_QUEUE_LIMIT, WHOLE};
+use crate::model::{Input, Kind, Kinds, List, Size, MOST_QUEUE_LIMIT, WHOLE};
 use crate::random::files::{FileCase, ThreeFiles};
 use crate::random::records::record_of_plan;
 use crate::random::sound::WordCase;
@@ -15,7 +15,8 @@ const MOST: u32 = WHOLE as u32;
 /// passes its limit; with half the vehicles and no queues products of 2^32 occur and every queue
 /// stays within its limit. With demands of kind 5 an eighth of the most may leave link N in every
 /// other step, and the most of all in those between; with a corridor of kind 10 each link with more
-/// than half the vehicles discharges a quarter of the most.
+/// than half the vehicles discharges a quarter of the most; with a record of kind 7 an eighth of
+/// what leaves each inner link is listed as an exit.
 pub fn greatest(size: Size, kinds: Kinds, jammed: bool) -> WordCase {
     let nodes: Vec<Node> = (0..size.nodes()).map(|i| greatest_node(size, i, jammed)).collect();
     let mut demands = vec![size.steps as u32];
@@ -33,9 +34,9 @@ pub fn greatest(size: Size, kinds: Kinds, jammed: bool) -> WordCase {
     }
     let corridor = corridor_of(kinds.corridor, &nodes);
     let input = Input::of_size(size, kinds.corridor, &corridor, &demands);
-    let record = record_of_plan(&input, &plan);
-    let (lent_record, lent_plan) = (size.record(), size.plan());
-    WordCase { kinds, corridor, demands, plan, record, lent_record, lent_plan }
+    let record = record_of_plan(&input, &plan).words(kinds.record);
+    let (lent_kind, lent_record, lent_plan) = (kinds.record, record.len(), size.plan());
+    WordCase { kinds, corridor, demands, plan, record, lent_kind, lent_record, lent_plan }
 }
 
 fn greatest_node(size: Size, i: usize, jammed: bool) -> Node {
@@ -93,14 +94,15 @@ fn limit_sizes() -> impl Iterator<Item = Size> {
     links.chain(steps)
 }
 
-/// Those sizes with corridor and demands both of their oldest kind, and both of their newest; and
-/// counts so large that lengths in 32 bits wrap round to small ones.
+/// Those sizes with all lists of their oldest kind, and all of their newest; and counts so large
+/// that lengths in 32 bits wrap round to small ones.
 pub fn limit_cases() -> impl Iterator<Item = LimitCase> {
     let of_kinds = |kinds: Kinds| {
         let cases = limit_sizes().map(move |size| LimitCase::of_size(size, kinds));
         cases.chain([no_node(kinds)])
     };
-    [Kinds::OLDEST, Kinds::NEWEST].into_iter().flat_map(of_kinds).chain([steps_that_wrap_round()])
+    let wrapping = List::Record.kinds().iter().map(|&record| steps_that_wrap_round(record));
+    [Kinds::OLDEST, Kinds::NEWEST].into_iter().flat_map(of_kinds).chain(wrapping)
 }
 
 /// N = 2^32 − 1, for which N + 1 nodes are none at all in 32 bits: the lists of no node.
@@ -114,16 +116,18 @@ fn no_node(kinds: Kinds) -> LimitCase {
         },
         plan: vec![],
         record: vec![0, 0],
+        lent_kind: kinds.record,
         lent_record: 2,
         lent_plan: 0,
     };
     LimitCase { n: u32::MAX, k: 1, lists }
 }
 
-/// K = 2^31, for which every length of kind 2's lists is in 32 bits that of K = 0. Kind 5 has no
-/// such K: its length grows by an odd number with each step.
-fn steps_that_wrap_round() -> LimitCase {
-    let mut lists = greatest(Size { links: 5, steps: 0 }, Kinds::OLDEST, false);
+/// K = 2^31, for which the lengths of kind 2, of a plan and of a record of either kind are in 32
+/// bits those of K = 0. Kind 5 has no such K: its length grows by an odd number with each step.
+fn steps_that_wrap_round(record: Kind) -> LimitCase {
+    let kinds = Kinds { record, ..Kinds::OLDEST };
+    let mut lists = greatest(Size { links: 5, steps: 0 }, kinds, false);
     lists.demands[0] = 1 << 31;
     LimitCase { n: 5, k: 1 << 31, lists }
 }

@@ -8,6 +8,7 @@ pub mod files;
 pub mod kinds;
 pub mod lists;
 pub mod program;
+pub mod record;
 pub mod rules;
 pub mod simulate;
 
@@ -16,6 +17,7 @@ pub use convert::{convert, normal, Setting};
 pub use files::{check_files, convert_files, read, write};
 pub use kinds::{Kind, Kinds, List};
 pub use lists::{Input, Node, Size};
+pub use record::{Entry, Record};
 pub use rules::{NodeStep, Paper, Quick, Rules};
 pub use simulate::simulate;
 

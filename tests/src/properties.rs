@@ -1,6 +1,6 @@
 //! What document 01 says of every record, every merge, every held limit and every block, and what
-//! document 02 adds of the flow that may leave link N and of the capacity drop, stated over what
-//! the calls give back: tests of any side, the model and the host alike.
+//! document 02 adds of the flow that may leave link N, of the capacity drop and of the kinds of
+//! lists, stated over what the calls give back: tests of any side, the model and the host alike.
 
 use crate::calls::{FileCalls, WordCalls};
 use crate::capacity_drop::discharge;
@@ -9,19 +9,22 @@ use crate::examples::refused;
 use crate::model::files::{BLOCK_BYTES, CHECK};
 use crate::model::kinds::KINDS;
 use crate::model::lists::{corridor_of, Node};
-use crate::model::simulate::{entry, inflow};
-use crate::model::{check, Input, Kind, NodeStep, Paper, Rules, Size, MOST_QUEUE_LIMIT, WHOLE};
+use crate::model::simulate::inflow;
+use crate::model::{
+    Entry, Input, Kind, NodeStep, Paper, Record, Rules, Size, MOST_QUEUE_LIMIT, WHOLE,
+};
 use crate::random::damage::size;
 use crate::random::files::{any_words, file_case, FileCase};
 use crate::random::records::{allowed_flows, record_of_flows};
 use crate::random::sound::{sound_case, WordCase};
 use crate::random::Random;
 
-/// The record that a side gives for a case's plan, which must be accepted.
-fn simulated(calls: &dyn WordCalls, case: &WordCase) -> Vec<u32> {
+/// The record that a side gives for a case's plan, which must be accepted, in the lent kind.
+pub fn simulated(calls: &dyn WordCalls, case: &WordCase) -> Record {
     let mut record = vec![7; case.lent_record];
     assert_eq!(calls.simulate(&case.corridor, &case.demands, &case.plan, &mut record), 0);
-    record
+    let input = Input::new(&case.corridor, &case.demands).expect("sound");
+    Record::from_words(case.lent_kind, input.size, &record)
 }
 
 /// In every step the vehicles on links and ramps change by arrivals and exits only, no link takes in
@@ -37,23 +40,22 @@ pub fn assert_vehicles_are_conserved(calls: &dyn WordCalls) {
     }
 }
 
-fn assert_step_conserves(input: &Input, record: &[u32], k: usize) {
-    let (now, next) = (check::state(input, record, k), check::state(input, record, k + 1));
-    let total = |state: &[u32]| -> u64 {
-        (0..input.size.nodes()).map(|i| entry(state, i)[0] + entry(state, i)[1]).sum()
-    };
+fn assert_step_conserves(input: &Input, record: &Record, k: usize) {
+    let (now, next) = (record.state(k), record.state(k + 1));
+    let total =
+        |state: &[Entry]| -> u64 { state.iter().map(|entry| entry.vehicles + entry.queue).sum() };
     let mut came = total(now);
     let mut stayed_or_left = total(next);
     for i in 0..input.size.nodes() {
-        let [_, _, flow, ramp_flow] = entry(now, i);
+        let Entry { vehicles, flow, ramp_flow, .. } = now[i];
         came += input.arrivals(k, i);
         let through = Paper::through(flow, input.split(k, i));
         let last = i == input.size.links;
         stayed_or_left += if last { flow } else { flow - through };
         let room = NodeStep::new::<Paper>(input, now, k, i).supply;
         assert!(through + ramp_flow <= room);
-        assert!(entry(next, i)[0] <= input.node(i).jam.into());
-        assert_eq!(entry(next, i)[0] + flow, entry(now, i)[0] + inflow::<Paper>(input, k, now, i));
+        assert!(next[i].vehicles <= input.node(i).jam.into());
+        assert_eq!(next[i].vehicles + flow, vehicles + inflow::<Paper>(input, k, now, i));
     }
     assert_eq!(came, stayed_or_left);
 }
@@ -68,12 +70,10 @@ pub fn assert_cost_is_the_sum_over_later_states(calls: &dyn WordCalls) {
         let mut cost: u64 = 0;
         for k in 1..=size.steps {
             for i in 0..size.nodes() {
-                let place = size.record_place(k, i);
-                cost += u64::from(record[place]) + u64::from(record[place + 1]);
+                cost += record.entry(k, i).vehicles + record.entry(k, i).queue;
             }
         }
-        let end = size.record() - 2;
-        assert_eq!(record[end..], [cost as u32, (cost >> 32) as u32]);
+        assert_eq!(record.cost, cost);
         beyond_32_bits += u32::from(cost >> 32 > 0);
     }
     assert!(beyond_32_bits > 20, "costs beyond 32 bits: {beyond_32_bits}");
@@ -120,7 +120,7 @@ struct Alone {
     size: Size,
 }
 
-/// The words of node 1 in a plan, and its n in state 0 of a record; l, f and r follow.
+/// The words of node 1 in a plan, and its n in state 0 of a record of kind 3; l, f and r follow.
 const SETTING: usize = 2;
 const STATE: usize = 4;
 
@@ -168,7 +168,8 @@ impl Alone {
         let mut plan = [0; 6];
         (plan[SETTING], plan[SETTING + 1]) = (rate as u32, limit as u32);
         let mut record = [7; 26];
-        let (plan, record) = (&plan[..self.size.plan()], &mut record[..self.size.record()]);
+        let (plan, record) =
+            (&plan[..self.size.plan()], &mut record[..Kind::Record.words(self.size)]);
         assert_eq!(calls.simulate(&self.corridor, &self.demands, plan, record), 0);
         (record[STATE + 2].into(), record[STATE + 3].into())
     }
@@ -177,6 +178,7 @@ impl Alone {
     fn setting(&self, calls: &dyn WordCalls, flows: (u64, u64)) -> (u64, u64) {
         let input = Input::new(&self.corridor, &self.demands).expect("made to these lengths");
         let record = record_of_flows(&input, |_, i, _| if i == 1 { flows } else { (0, 0) });
+        let record = record.words(Kind::Record);
         let mut plan = vec![7; self.size.plan()];
         assert_eq!(calls.convert(&self.corridor, &self.demands, &record, &mut plan), 0);
         (plan[SETTING].into(), plan[SETTING + 1].into())
@@ -290,7 +292,7 @@ pub fn assert_check_word_sees_any_one_change(calls: &dyn FileCalls) {
         let place = BLOCK_BYTES * block + 4 * random.below(CHECK);
         let old = [0, 1, 2, 3].map(|byte| file[place + byte]);
         let strange = random.strange_word(u32::from_le_bytes(old));
-        let new = random.pick(&[strange, strange, 2, 5, 1, 10]).to_le_bytes();
+        let new = random.pick(&[strange, strange, 2, 5, 1, 10, 3, 7]).to_le_bytes();
         file[place..place + 4].copy_from_slice(&new);
         let said = kind.list().kind_of_file(&file);
         let answer = calls.read(kind.list(), n, k, &file, &mut vec![7; said.words(size)]);

@@ -1,8 +1,9 @@
-//! The example files: B's corridor and its demands, of both kinds, and the records of some of its
-//! worked cases.
+//! The example files: B's corridor and its demands, of both kinds, and the records, of either kind,
+//! of some of its worked cases.
 
 use crate::examples::capacity_drop::{b_drop, drop_proposed};
 use crate::examples::downstream::{b_downstream, downstream_proposed};
+use crate::examples::off_ramps::{b_off_ramps, b_with_a_rest, exit_proposed};
 use crate::examples::{b, propose};
 use crate::model::Kind;
 use crate::random::files::file_of;
@@ -13,8 +14,8 @@ pub fn folder() -> PathBuf {
     Path::new(env!("CARGO_MANIFEST_DIR")).join("../examples/b")
 }
 
-/// Name and bytes of each. The records of cases 1, 11 and 14 come from their plan, 3 to 6 propose f
-/// and r of node 1, 12, 13 and 15 propose f of node 2.
+/// Name and bytes of each. The records of cases 1, 11, 14, 16 and 18 come from their plan, 3 to 6
+/// propose f and r of node 1, 12, 13 and 15 propose f of node 2, 17 proposes the exit of node 1.
 pub fn files() -> Vec<(&'static str, Vec<u8>)> {
     let (case, downstream, drop) = (b(), b_downstream(), b_drop());
     let mut files = vec![
@@ -28,6 +29,9 @@ pub fn files() -> Vec<(&'static str, Vec<u8>)> {
         ("drop.blocks", file_of(Kind::CapacityDrop, &drop.corridor)),
         ("case14.blocks", file_of(Kind::Record, &drop.record)),
         ("case15.blocks", file_of(Kind::Record, &drop_proposed(81).record)),
+        ("case16.blocks", file_of(Kind::OffRamps, &b_off_ramps().record)),
+        ("case17.blocks", file_of(Kind::OffRamps, &exit_proposed(21).record)),
+        ("case18.blocks", file_of(Kind::OffRamps, &b_with_a_rest().record)),
     ];
     let proposals = [
         ("case3.blocks", 60, 50),
@@ -48,6 +52,7 @@ pub fn input(case: &str) -> [Vec<u8>; 3] {
     let (corridor, demands) = match case {
         "case11" | "case12" | "case13" => ("corridor", "downstream"),
         "case14" | "case15" => ("drop", "demands"),
+        "case18" => ("drop", "downstream"),
         _ => ("corridor", "demands"),
     };
     [corridor, demands, case].map(|name| {

@@ -33,27 +33,29 @@ fn other_words(old: u32) -> Vec<u32> {
     others.filter(|&word| word != old).collect()
 }
 
-/// The four lists of a case, to change one of them.
-fn list(case: &mut WordCase, number: usize) -> &mut Vec<u32> {
-    match number {
-        0 => &mut case.corridor,
-        1 => &mut case.demands,
-        2 => &mut case.plan,
-        _ => &mut case.record,
+const LISTS: [List; 4] = [List::Corridor, List::Demands, List::Record, List::Plan];
+
+/// One of the four lists of a case, to change it.
+fn words(case: &mut WordCase, list: List) -> &mut Vec<u32> {
+    match list {
+        List::Corridor => &mut case.corridor,
+        List::Demands => &mut case.demands,
+        List::Record => &mut case.record,
+        List::Plan => &mut case.plan,
     }
 }
 
 /// Calls `visit` with every case in which one word of one list is another.
 pub fn each_word_changed(case: &WordCase, mut visit: impl FnMut(&WordCase)) {
     let mut changed = case.clone();
-    for number in 0..4 {
-        for place in 0..list(&mut changed, number).len() {
-            let old = list(&mut changed, number)[place];
+    for list in LISTS {
+        for place in 0..words(&mut changed, list).len() {
+            let old = words(&mut changed, list)[place];
             for word in other_words(old) {
-                list(&mut changed, number)[place] = word;
+                words(&mut changed, list)[place] = word;
                 visit(&changed);
             }
-            list(&mut changed, number)[place] = old;
+            words(&mut changed, list)[place] = old;
         }
     }
 }
@@ -63,27 +65,23 @@ fn other_lengths(length: usize) -> [usize; 5] {
     [0, 1, length - 1, length + 1, 2 * length]
 }
 
-/// Calls `visit` with every case in which one list, or one lent list, has another length; corridor
-/// and demands also that of each kind, and those beside it.
+/// Calls `visit` with every case in which one list, or one lent list, has another length; each also
+/// that of each of its kinds, and those beside it.
 pub fn each_length_changed(case: &WordCase, mut visit: impl FnMut(&WordCase)) {
-    for number in 0..4 {
-        for length in other_lengths(list(&mut case.clone(), number).len()) {
-            let mut changed = case.clone();
-            list(&mut changed, number).resize(length, 0);
-            visit(&changed);
-        }
-    }
     let size = Input::new(&case.corridor, &case.demands).expect("a sound case").size;
-    let kinds = [List::Corridor, List::Demands].into_iter().flat_map(|list| list.kinds());
-    for kind in kinds {
-        let words = kind.words(size);
-        for length in words - 1..=words + 1 {
+    let of_kinds = |list: List| {
+        let lengths = list.kinds().iter().map(move |kind| kind.words(size));
+        lengths.flat_map(|length| length - 1..=length + 1)
+    };
+    for list in LISTS {
+        let length = words(&mut case.clone(), list).len();
+        for length in other_lengths(length).into_iter().chain(of_kinds(list)) {
             let mut changed = case.clone();
-            list(&mut changed, kind.list() as usize).resize(length, 0);
+            words(&mut changed, list).resize(length, 0);
             visit(&changed);
         }
     }
-    for lent_record in other_lengths(case.lent_record) {
+    for lent_record in other_lengths(case.lent_record).into_iter().chain(of_kinds(List::Record)) {
         visit(&WordCase { lent_record, ..case.clone() });
     }
     for lent_plan in other_lengths(case.lent_plan) {
@@ -106,7 +104,7 @@ pub fn each_file_word_changed(size: Size, mut visit: impl FnMut(&FileCase)) {
         let case = counting_file(kind, size);
         for block in 0..case.file.len() / BLOCK_BYTES {
             for place in 0..=CHECK {
-                for word in [0, 1, 2, 3, 4, 5, 10, u32::MAX] {
+                for word in [0, 1, 2, 3, 4, 5, 7, 10, u32::MAX] {
                     let mut changed = case.clone();
                     change_block(&mut changed.file, block, place, |_| word);
                     visit(&changed);
@@ -119,11 +117,11 @@ pub fn each_file_word_changed(size: Size, mut visit: impl FnMut(&FileCase)) {
     }
 }
 
-/// Calls `visit` with files of both kinds of corridor and of demands that say in their first block,
-/// or in all, that they are of any kind, or end before they say it; list and file are lent as
-/// either kind has them, and the list to write has either length.
+/// Calls `visit` with files of both kinds of corridor, of demands and of record that say in their
+/// first block, or in all, that they are of any kind, or end before they say it; list and file are
+/// lent as either kind has them, and the list to write has either length.
 pub fn each_kind_said(size: Size, mut visit: impl FnMut(&FileCase)) {
-    for kinds in [List::Corridor, List::Demands].map(List::kinds) {
+    for kinds in [List::Corridor, List::Demands, List::Record].map(List::kinds) {
         for made in kinds {
             for lent in kinds {
                 let case = FileCase {
@@ -139,7 +137,7 @@ pub fn each_kind_said(size: Size, mut visit: impl FnMut(&FileCase)) {
 
 /// The same for one file and the list and the file that are lent.
 fn each_kind_said_in(case: &FileCase, visit: &mut impl FnMut(&FileCase)) {
-    let low_bits = [1, 2, 5, 10].into_iter().flat_map(same_in_fewer_bits);
+    let low_bits = [1, 2, 3, 5, 7, 10].into_iter().flat_map(same_in_fewer_bits);
     let said: Vec<u32> = (0..=12).chain(low_bits).chain([u32::MAX]).collect();
     for in_all_blocks in [false, true] {
         for &kind in &said {

@@ -4,11 +4,13 @@
 pub mod capacity_drop;
 pub mod downstream;
 pub mod kinds;
+pub mod off_ramps;
 
-use crate::model::{check, Input, NodeStep, Quick, Rules, WHOLE};
+use crate::model::{Input, NodeStep, Quick, Record, Rules, WHOLE};
 use capacity_drop::{drop_happenings, AT_DROPS, WHERE_DROPPED};
 use downstream::{AT_LINK_N, WHERE_LESS_MAY_LEAVE};
 use kinds::{CALLS_BY_KIND, KINDS_TOGETHER};
+use off_ramps::{AT_OFF_RAMPS, GREATEST_EXIT};
 use std::collections::BTreeMap;
 
 /// Counts by name and, for the answers of a call, refusal number.
@@ -80,8 +82,8 @@ impl Tally {
         }
     }
 
-    /// The same for every answer that the four calls on words, or on nodes, can give with a
-    /// corridor and demands of either kind.
+    /// The same for every answer that the four calls on words, or on nodes, can give with lists of
+    /// either kind.
     pub fn expect_all_answers(&self, at_least: u64) {
         for [simulate, check, convert, normal] in CALLS_BY_KIND {
             self.expect(simulate, &[0, 1, 2, 3, 4, 5, 6], at_least);
@@ -89,13 +91,14 @@ impl Tally {
             self.expect(convert, &[0, 1, 2, 3, 4, 5, 7, 8, 9, 10, 11, 12, 13], at_least);
             self.expect(normal, &[0, 1, 2, 3, 4, 5, 6, 12], at_least);
         }
-        KINDS_TOGETHER.as_flattened().iter().for_each(|name| self.expect(name, &[0], at_least));
+        KINDS_TOGETHER.iter().for_each(|name| self.expect(name, &[0], at_least));
         self.expect_downstream_refusals(at_least / 4);
         self.expect_drop_refusals(at_least / 8);
+        self.expect_exit_refusals(at_least / 8);
     }
 
     /// The answers that even a short series of large inputs brings about, those of all calls and
-    /// those with a corridor and demands of either kind.
+    /// those with lists of either kind.
     pub fn expect_common_answers(&self, at_least: u64) {
         self.expect("simulate", &[0, 1, 6], at_least);
         self.expect("check", &[0, 1, 7, 9, 12], at_least);
@@ -108,15 +111,16 @@ impl Tally {
     }
 
     /// The same for everything that can happen in a step and every setting; less often for what
-    /// only node N and kind 5, or only a drop, bring about.
+    /// only node N and kind 5, only a drop, or only some exits bring about.
     pub fn expect_all_happenings(&self, at_least: u64) {
         for name in HAPPENINGS.into_iter().chain(SETTINGS) {
             self.expect(name, &[0], at_least);
         }
         let at_link_n = AT_LINK_N.into_iter().chain(WHERE_LESS_MAY_LEAVE);
-        for name in at_link_n.chain(AT_DROPS).chain(WHERE_DROPPED) {
+        for name in at_link_n.chain(AT_DROPS).chain(WHERE_DROPPED).chain(AT_OFF_RAMPS) {
             self.expect(name, &[0], at_least / 5);
         }
+        self.expect(GREATEST_EXIT, &[0], at_least / 250);
     }
 
     pub fn print(&self) {
@@ -126,14 +130,13 @@ impl Tally {
     }
 
     /// Counts what happened in an accepted simulation.
-    pub fn happenings(&mut self, input: &Input, plan: &[u32], record: &[u32]) {
+    pub fn happenings(&mut self, input: &Input, plan: &[u32], record: &Record) {
         let (mut seen, mut drops) = (vec![], vec![]);
         for (k, i) in places(input) {
-            let at = NodeStep::new::<Quick>(input, check::state(input, record, k), k, i);
+            let at = NodeStep::new::<Quick>(input, record.state(k), k, i);
             let place = input.size.plan_place(k, i);
             let setting = (plan[place].into(), plan[place + 1].into());
-            let next_queue = record[input.size.record_place(k + 1, i) + 1];
-            let over = next_queue > input.node(i).queue_limit;
+            let over = record.entry(k + 1, i).queue > input.node(i).queue_limit.into();
             seen.push(node_happenings(input, i, &at, setting, over));
             if input.has_drop() && i > 0 {
                 drops.push(drop_happenings(input, record, (k, i), &at, setting));
@@ -142,11 +145,12 @@ impl Tally {
         self.add_seen(HAPPENINGS, seen);
         self.add_seen(AT_DROPS, drops);
         self.at_link_n(input, plan, record);
+        self.at_off_ramps(input, record);
     }
 
     /// Counts the settings of a plan that a converter gave for a record: full is where the limit is
     /// V.
-    pub fn settings(&mut self, input: &Input, record: &[u32], plan: &[u32]) {
+    pub fn settings(&mut self, input: &Input, record: &Record, plan: &[u32]) {
         let mut counts = [0; SETTINGS.len()];
         for (k, i) in places(input) {
             let full = plan[input.size.plan_place(k, i) + 1] == input.node(i).full_speed;

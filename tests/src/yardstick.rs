@@ -4,8 +4,12 @@
 use crate::calls::{FileCalls, WordCalls};
 use crate::model::files::{BLOCK_BYTES, CHECK, FIRST_PAYLOAD, PAYLOAD_WORDS};
 use crate::model::lists::{test_corridor, test_plan};
-use crate::model::simulate::{start, write_cost};
+use crate::model::record::{ENTRY_WORDS, EXIT_WORDS};
 use crate::model::{Input, Kind, List, Node, Quick, Size};
+
+/// The words of a node in a state of a record of kind 3, and of kind 7.
+const WITHOUT_EXITS: usize = ENTRY_WORDS;
+const WITH_EXITS: usize = ENTRY_WORDS + EXIT_WORDS;
 
 pub struct Yardstick;
 
@@ -36,15 +40,20 @@ struct Place {
 
 impl Place {
     #[inline]
-    fn new(nodes: &[Node], demands: StepDemands, state: &[u32], i: usize) -> Place {
+    fn new<const WIDTH: usize>(
+        nodes: &[Node],
+        demands: StepDemands,
+        state: &[u32],
+        i: usize,
+    ) -> Place {
         let room = nodes.get(i + 1).map_or(demands.downstream, |next| {
-            let free = u64::from(next.jam - state[4 * i + 4]);
+            let free = u64::from(next.jam - state[WIDTH * i + WIDTH]);
             ((u64::from(next.wave_speed) * free) >> 16).min(next.capacity.into())
         });
         Place {
             node: nodes[i],
-            vehicles: state[4 * i].into(),
-            queue: state[4 * i + 1].into(),
+            vehicles: state[WIDTH * i].into(),
+            queue: state[WIDTH * i + 1].into(),
             arrivals: demands.row[2 * i].into(),
             split: demands.row[2 * i + 1].into(),
             room,
@@ -59,8 +68,13 @@ impl Place {
     }
 
     #[inline]
+    fn exit(&self, flow: u64) -> u64 {
+        (flow * self.split) >> 16
+    }
+
+    #[inline]
     fn through(&self, flow: u64) -> u64 {
-        flow - ((flow * self.split) >> 16)
+        flow - self.exit(flow)
     }
 
     #[inline]
@@ -107,15 +121,14 @@ struct StepDemands<'a> {
 }
 
 /// The two states of step k and the step's part of the demands.
-fn step_lists<'a>(
+fn step_lists<'a, const WIDTH: usize>(
     input: &Input,
     demands: &'a [u32],
     record: &'a [u32],
     k: usize,
 ) -> (&'a [u32], &'a [u32], StepDemands<'a>) {
-    let size = input.size;
-    let (state, next) = record[size.record_place(k, 0)..size.record_place(k + 2, 0)]
-        .split_at(size.record_place(1, 0));
+    let width = WIDTH * input.size.nodes();
+    let (state, next) = record[k * width..(k + 2) * width].split_at(width);
     (state, next, step_demands(input, demands, k))
 }
 
@@ -125,7 +138,7 @@ fn step_demands<'a>(input: &Input, demands: &'a [u32], k: usize) -> StepDemands<
 }
 
 /// One step of the simulation; gives the next state's part of the cost.
-fn step(
+fn step<const WIDTH: usize>(
     nodes: &[Node],
     demands: StepDemands,
     plan: &[u32],
@@ -134,33 +147,67 @@ fn step(
 ) -> u64 {
     let (mut inflow, mut cost) = (0, 0);
     for i in 0..nodes.len() {
-        let place = Place::new(nodes, demands, state, i);
+        let place = Place::new::<WIDTH>(nodes, demands, state, i);
         let sending = place.sending(plan[2 * i + 1]);
         let offer = place.ramp().min(plan[2 * i].into());
         let (flow, ramp_flow) = place.merge(sending, place.through(sending), offer);
         let vehicles = place.vehicles + inflow - flow;
         let queue = place.queue + place.arrivals - ramp_flow;
-        (state[4 * i + 2], state[4 * i + 3]) = (flow as u32, ramp_flow as u32);
-        (next[4 * i], next[4 * i + 1]) = (vehicles as u32, queue as u32);
-        inflow = place.through(flow) + ramp_flow;
+        let exit = place.exit(flow);
+        (state[WIDTH * i + 2], state[WIDTH * i + 3]) = (flow as u32, ramp_flow as u32);
+        if WIDTH == WITH_EXITS {
+            state[WIDTH * i + 4] = exit as u32;
+        }
+        (next[WIDTH * i], next[WIDTH * i + 1]) = (vehicles as u32, queue as u32);
+        inflow = flow - exit + ramp_flow;
         cost += vehicles + queue;
     }
     cost
 }
 
+/// The record of a plan within bounds.
+fn run<const WIDTH: usize>(
+    input: &Input,
+    nodes: &[Node],
+    demands: &[u32],
+    plan: &[u32],
+    record: &mut [u32],
+) {
+    let (size, width) = (input.size, WIDTH * nodes.len());
+    let (states, end) = record.split_at_mut(width * (size.steps + 1));
+    for (entry, node) in states.chunks_exact_mut(WIDTH).zip(nodes) {
+        (entry[0], entry[1]) = (node.start_vehicles, node.start_queue);
+    }
+    let mut cost = 0;
+    for k in 0..size.steps {
+        let (state, next) = states[k * width..(k + 2) * width].split_at_mut(width);
+        let plan = &plan[size.plan_place(k, 0)..size.plan_place(k + 1, 0)];
+        cost += step::<WIDTH>(nodes, step_demands(input, demands, k), plan, state, next);
+    }
+    states[size.steps * width..].chunks_exact_mut(WIDTH).for_each(|entry| entry[2..].fill(0));
+    (end[0], end[1]) = (cost as u32, (cost >> 32) as u32);
+}
+
 /// One step of a record; gives the next state's part of the cost, or nothing if a rule is broken.
-fn check_step(nodes: &[Node], demands: StepDemands, state: &[u32], next: &[u32]) -> Option<u64> {
+fn check_step<const WIDTH: usize>(
+    nodes: &[Node],
+    demands: StepDemands,
+    state: &[u32],
+    next: &[u32],
+) -> Option<u64> {
     let (mut inflow, mut cost) = (0, 0);
     for i in 0..nodes.len() {
-        let place = Place::new(nodes, demands, state, i);
-        let (flow, ramp_flow) = (u64::from(state[4 * i + 2]), u64::from(state[4 * i + 3]));
-        let (vehicles, queue) = (u64::from(next[4 * i]), u64::from(next[4 * i + 1]));
-        let merged = place.through(flow) + ramp_flow;
+        let place = Place::new::<WIDTH>(nodes, demands, state, i);
+        let (flow, ramp_flow) = (u64::from(state[WIDTH * i + 2]), u64::from(state[WIDTH * i + 3]));
+        let (vehicles, queue) = (u64::from(next[WIDTH * i]), u64::from(next[WIDTH * i + 1]));
+        let exit = place.exit(flow);
+        let merged = flow - exit + ramp_flow;
         let flows = flow <= place.sending(place.node.full_speed) && ramp_flow <= place.ramp();
         let states = vehicles + flow == place.vehicles + inflow
             && queue + ramp_flow == place.queue + place.arrivals;
         let fits = merged <= place.room && queue <= place.node.queue_limit.into();
-        if !(flows && fits && states) {
+        let listed = WIDTH == WITHOUT_EXITS || u64::from(state[WIDTH * i + 4]) == exit;
+        if !(flows && fits && states && listed) {
             return None;
         }
         inflow = merged;
@@ -169,76 +216,105 @@ fn check_step(nodes: &[Node], demands: StepDemands, state: &[u32], next: &[u32])
     Some(cost)
 }
 
-/// Whether state 0 and the fixed zeros are as refusal 7 wants them.
-fn fixed_words(nodes: &[Node], size: Size, record: &[u32]) -> bool {
-    let start = nodes.iter().zip(record.chunks_exact(4));
-    let mut states = record[..record.len() - 2].chunks_exact(4 * nodes.len());
-    let last = &record[size.record_place(size.steps, 0)..record.len() - 2];
-    let end = 4 * size.links;
-    start.into_iter().all(|(node, entry)| entry[..2] == [node.start_vehicles, node.start_queue])
-        && states.all(|s| (s[0], s[2], s[end + 1], s[end + 3]) == (0, 0, 0, 0))
-        && last.chunks_exact(4).all(|entry| entry[2..] == [0, 0])
+/// Whether state 0 and the fixed zeros are as refusal 7 wants them. Where the exits of nodes 0 and N
+/// are fixed their splits are zero, so those of states before K are tested with the others.
+fn fixed_words<const WIDTH: usize>(nodes: &[Node], size: Size, states: &[u32]) -> bool {
+    let (width, end) = (WIDTH * nodes.len(), WIDTH * size.links);
+    let mut start = nodes.iter().zip(states.chunks_exact(WIDTH));
+    let mut all = states.chunks_exact(width);
+    let mut last = states[size.steps * width..].chunks_exact(WIDTH);
+    start.all(|(node, entry)| entry[..2] == [node.start_vehicles, node.start_queue])
+        && all.all(|s| (s[0], s[2], s[end + 1], s[end + 3]) == (0, 0, 0, 0))
+        && last.all(|entry| entry[2..].iter().all(|&word| word == 0))
 }
 
 /// Whether refusals 7 to 13 let a record pass.
-fn sound_record(input: &Input, nodes: &[Node], demands: &[u32], record: &[u32]) -> bool {
+fn sound_record<const WIDTH: usize>(
+    input: &Input,
+    nodes: &[Node],
+    demands: &[u32],
+    record: &[u32],
+) -> bool {
     let size = input.size;
-    if record.len() != size.record() || !fixed_words(nodes, size, record) {
+    let (states, end) = record.split_at(WIDTH * nodes.len() * (size.steps + 1));
+    if !fixed_words::<WIDTH>(nodes, size, states) {
         return false;
     }
     let cost = (0..size.steps).try_fold(0, |cost, k| {
-        let (state, next, demands) = step_lists(input, demands, record, k);
-        Some(cost + check_step(nodes, demands, state, next)?)
+        let (state, next, demands) = step_lists::<WIDTH>(input, demands, states, k);
+        Some(cost + check_step::<WIDTH>(nodes, demands, state, next)?)
     });
-    let end = size.record() - 2;
-    cost == Some(u64::from(record[end]) | u64::from(record[end + 1]) << 32)
+    cost == Some(u64::from(end[0]) | u64::from(end[1]) << 32)
+}
+
+/// The plan of a record that is sound.
+fn settings<const WIDTH: usize>(
+    input: &Input,
+    nodes: &[Node],
+    demands: &[u32],
+    record: &[u32],
+    plan: &mut [u32],
+) {
+    for (k, plan) in plan.chunks_exact_mut(2 * nodes.len()).enumerate() {
+        let (state, _, demands) = step_lists::<WIDTH>(input, demands, record, k);
+        for (i, setting) in plan.chunks_exact_mut(2).enumerate() {
+            let place = Place::new::<WIDTH>(nodes, demands, state, i);
+            let flows = (state[WIDTH * i + 2].into(), state[WIDTH * i + 3].into());
+            (setting[0], setting[1]) = place.setting(flows.0, flows.1);
+        }
+    }
+}
+
+/// The input if refusals 1 to 5 and 7 to 13 let it and a record pass, and the record's kind.
+fn accepted_record<'a>(
+    corridor: &'a [u32],
+    demands: &'a [u32],
+    record: &[u32],
+) -> Option<(Input<'a>, Vec<Node>, Kind)> {
+    let (input, nodes) = accepted(corridor, demands)?;
+    let kind = List::Record.kind_of_length(input.size, record.len()).ok()?;
+    let sound = match kind {
+        Kind::OffRamps => sound_record::<WITH_EXITS>(&input, &nodes, demands, record),
+        _ => sound_record::<WITHOUT_EXITS>(&input, &nodes, demands, record),
+    };
+    sound.then_some((input, nodes, kind))
 }
 
 impl WordCalls for Yardstick {
     fn simulate(&self, corridor: &[u32], demands: &[u32], plan: &[u32], record: &mut [u32]) -> u32 {
-        let fits =
-            |input: &Input| plan.len() == input.size.plan() && record.len() == input.size.record();
-        let found = accepted(corridor, demands).filter(|(input, _)| fits(input));
-        let Some((input, nodes)) =
-            found.filter(|(input, _)| test_plan::<Quick>(input, plan).is_ok())
-        else {
+        let found = accepted(corridor, demands)
+            .filter(|(input, _)| plan.len() == input.size.plan())
+            .filter(|(input, _)| test_plan::<Quick>(input, plan).is_ok());
+        let kind = found
+            .as_ref()
+            .and_then(|(input, _)| List::Record.kind_of_length(input.size, record.len()).ok());
+        let (Some((input, nodes)), Some(kind)) = (found, kind) else {
             return Quick.simulate(corridor, demands, plan, record);
         };
-        let (size, width) = (input.size, input.size.record_place(1, 0));
-        start(&input, record);
-        let mut cost = 0;
-        for k in 0..size.steps {
-            let (state, next) = record[k * width..(k + 2) * width].split_at_mut(width);
-            let plan = &plan[size.plan_place(k, 0)..size.plan_place(k + 1, 0)];
-            cost += step(&nodes, step_demands(&input, demands, k), plan, state, next);
+        match kind {
+            Kind::OffRamps => run::<WITH_EXITS>(&input, &nodes, demands, plan, record),
+            _ => run::<WITHOUT_EXITS>(&input, &nodes, demands, plan, record),
         }
-        record[size.steps * width..].chunks_exact_mut(4).for_each(|entry| entry[2..].fill(0));
-        write_cost(cost, record);
         0
     }
 
     fn check(&self, corridor: &[u32], demands: &[u32], record: &[u32]) -> u32 {
-        let found = accepted(corridor, demands);
-        match found.filter(|(input, nodes)| sound_record(input, nodes, demands, record)) {
+        match accepted_record(corridor, demands, record) {
             Some(_) => 0,
             None => Quick.check(corridor, demands, record),
         }
     }
 
     fn convert(&self, corridor: &[u32], demands: &[u32], record: &[u32], plan: &mut [u32]) -> u32 {
-        let found =
-            accepted(corridor, demands).filter(|(input, _)| plan.len() == input.size.plan());
-        let found = found.filter(|(input, nodes)| sound_record(input, nodes, demands, record));
-        let Some((input, nodes)) = found else {
+        let found = accepted_record(corridor, demands, record);
+        let Some((input, nodes, kind)) =
+            found.filter(|(input, ..)| plan.len() == input.size.plan())
+        else {
             return Quick.convert(corridor, demands, record, plan);
         };
-        for (k, plan) in plan.chunks_exact_mut(2 * nodes.len()).enumerate() {
-            let (state, _, demands) = step_lists(&input, demands, record, k);
-            for (i, setting) in plan.chunks_exact_mut(2).enumerate() {
-                let place = Place::new(&nodes, demands, state, i);
-                let flows = (state[4 * i + 2].into(), state[4 * i + 3].into());
-                (setting[0], setting[1]) = place.setting(flows.0, flows.1);
-            }
+        match kind {
+            Kind::OffRamps => settings::<WITH_EXITS>(&input, &nodes, demands, record, plan),
+            _ => settings::<WITHOUT_EXITS>(&input, &nodes, demands, record, plan),
         }
         0
     }

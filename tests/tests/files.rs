@@ -11,7 +11,8 @@ use tests::examples::assert_file_examples;
 use tests::host::Host;
 use tests::limits::{greatest, limit_cases};
 use tests::model::kinds::KINDS;
-use tests::model::{Kinds, List, Quick, Size};
+use tests::model::{Kind, Kinds, List, Quick, Size};
+use tests::off_ramps::*;
 use tests::properties::*;
 use tests::random::damage::full_size;
 use tests::random::files::{
@@ -53,7 +54,7 @@ fn large_files() {
     run_files(series, large_file_case, &[0, 1, 15, 16, 17], 2);
 }
 
-/// Checker and converter on files, the corridor's and the demands' of either kind.
+/// Checker and converter on files, each of either kind.
 fn run_three(series: Series, make: fn(&mut Random) -> ThreeFiles) -> Tally {
     let mut tally = Tally::default();
     let outcome = series.run(make, |case| compare_three([&Quick, &Host], case, &mut tally));
@@ -69,7 +70,7 @@ fn small_calls_on_files() {
     for call in CALLS_ON_FILES_BY_KIND.as_flattened() {
         tally.expect(call, &numbers, 150);
     }
-    KINDS_TOGETHER.as_flattened().iter().for_each(|name| tally.expect(name, &[0], 1_000));
+    KINDS_TOGETHER.iter().for_each(|name| tally.expect(name, &[0], 1_000));
     tally.expect_refusals_by_kind(50);
 }
 
@@ -110,24 +111,25 @@ fn limits_of_links_and_steps() {
     assert_eq!(outcome, Ok(()));
 }
 
-/// Every size with a list that just fills its last block, or is one word longer or shorter.
+/// Every size with a list that just fills its last block, or is up to three words longer or shorter:
+/// kind 7 is always two words longer than a multiple of five, so it never fills a block of 125.
 #[test]
 fn sizes_around_a_full_block() {
-    let mut sizes = 0;
+    let mut sizes = [0; KINDS.len()];
     for (n, k) in (1..=64).flat_map(|n| (1..=40).map(move |k| (n, k))) {
         let size = Size::new(n, k).expect("within limits");
-        for kind in KINDS.into_iter().filter(|kind| [0, 1, 124].contains(&(kind.words(size) % 125)))
-        {
+        let near_full = |kind: &Kind| (kind.words(size) + 3) % 125 <= 6;
+        for kind in KINDS.into_iter().filter(near_full) {
             let mut words = vec![u32::MAX; kind.words(size)];
             words[0] = kind.own_count(size).unwrap_or(5) as u32;
             let case = FileCase::sound(kind, n, k, words);
             let mut tally = Tally::default();
             assert_eq!(compare_file([&Quick, &Host], &case, &mut tally), Ok(()));
             tally.expect(READERS[kind.place()], &[0], 1);
-            sizes += 1;
+            sizes[kind.place()] += 1;
         }
     }
-    assert!(sizes > 100, "sizes tried: {sizes}");
+    assert!(sizes.iter().all(|&sizes| sizes >= 40), "sizes tried: {sizes:?}");
 }
 
 #[test]
@@ -176,6 +178,17 @@ fn kind_two_is_kind_five_completed() {
 #[test]
 fn kind_one_is_kind_ten_completed() {
     assert_completed_files_are_the_same(&Host, List::Corridor);
+}
+
+#[test]
+fn kind_three_is_kind_seven_completed() {
+    assert_completed_files_are_the_same(&Host, List::Record);
+}
+
+/// The record goes to checker and converter as a file.
+#[test]
+fn every_exit_is_tested() {
+    assert_every_exit_is_tested(&ByFiles(Host));
 }
 
 #[test]

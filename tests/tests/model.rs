@@ -1,5 +1,5 @@
 //! The model against documents 01 and 02: the worked cases, the examples of the table, and what they
-//! say of the rules, of the search and of the kinds of corridor and demands.
+//! say of the rules, of the search and of the kinds of corridor, demands and record.
 
 use tests::calls::ByNodes;
 use tests::capacity_drop::*;
@@ -9,9 +9,11 @@ use tests::downstream::*;
 use tests::examples::{assert_file_examples, assert_program_examples, assert_word_examples};
 use tests::model::convert::{rate_by_halving, rate_from_zero};
 use tests::model::kinds::KINDS;
-use tests::model::{List, Paper, Quick, Rules};
+use tests::model::lists::{MOST_LINKS, MOST_STEPS};
+use tests::model::{Kind, List, Paper, Quick, Rules, Size};
+use tests::off_ramps::*;
 use tests::properties::*;
-use tests::random::damage::{short_ramp_case, small_case};
+use tests::random::damage::{full_size, short_ramp_case, small_case};
 use tests::random::files::{change_block, file_case, file_of};
 use tests::random::records::allowed_flows;
 use tests::tally::kinds::CALLS_BY_KIND;
@@ -127,7 +129,7 @@ fn link_n_keeps_to_its_words() {
 
 #[test]
 fn oldest_kinds_are_newest_completed() {
-    for list in [List::Corridor, List::Demands] {
+    for list in [List::Corridor, List::Demands, List::Record] {
         assert_completed_lists_are_the_same(&Quick, list);
         assert_completed_files_are_the_same(&Quick, list);
         assert_completed_inputs_are_the_same(&Quick, list);
@@ -147,6 +149,38 @@ fn link_keeps_receiving() {
 #[test]
 fn sending_is_monotone_in_the_limit() {
     assert_sending_is_monotone_in_the_limit(&Paper);
+}
+
+/// Once N and K are known a length tells the kind: no two kinds of a list share one. The longest
+/// record is that of kind 7.
+#[test]
+fn lengths_tell_kinds_apart() {
+    for (n, k) in (1..=MOST_LINKS).flat_map(|n| (1..=MOST_STEPS).map(move |k| (n, k))) {
+        let size = Size::new(n, k).expect("within limits");
+        for list in [List::Corridor, List::Demands, List::Record] {
+            let [oldest, newest] = list.kinds() else { panic!("two kinds of each") };
+            for kind in [oldest, newest] {
+                assert_eq!(list.kind_of_length(size, kind.words(size)), Ok(*kind), "{n} {k}");
+            }
+        }
+    }
+    assert_eq!(Kind::OffRamps.words(full_size()), 468_327);
+    assert_eq!(Kind::OffRamps.bytes(full_size()), 1_918_464);
+}
+
+#[test]
+fn exits_are_what_does_not_go_through() {
+    assert_exits_are_what_does_not_go_through(&Paper);
+}
+
+#[test]
+fn record_accounts_for_all_vehicles() {
+    assert_record_accounts_for_all_vehicles(&Paper);
+}
+
+#[test]
+fn every_exit_is_tested() {
+    assert_every_exit_is_tested(&Quick);
 }
 
 #[test]

@@ -6,10 +6,11 @@ use tests::compare::{compare_limit_on_words, compare_words, Series, CALLS_ON_LIS
 use tests::completed::*;
 use tests::downstream::*;
 use tests::examples::assert_word_examples;
-use tests::examples::capacity_drop::b_of_all_kinds;
+use tests::examples::off_ramps::b_of_all_kinds;
 use tests::host::Host;
 use tests::limits::{greatest, limit_cases};
 use tests::model::{Kinds, List, Paper, Quick, Size};
+use tests::off_ramps::*;
 use tests::properties::*;
 use tests::random::damage::{full_size, large_case, size, small_case};
 use tests::random::sound::{sound_case, WordCase};
@@ -23,8 +24,8 @@ fn worked_cases_and_table() {
     assert_word_examples(&ByNodes(Host));
 }
 
-/// B with a corridor and demands of both kinds, with one word or one length changed, every place in
-/// turn.
+/// B with a corridor, demands and a record of both kinds, with one word or one length changed, every
+/// place in turn.
 #[test]
 fn every_place_changed() {
     let mut tally = Tally::default();
@@ -59,7 +60,7 @@ fn small_inputs() {
 
 #[test]
 fn large_inputs() {
-    let tally = run(Series::new("large inputs", 100_000_000, 200), large_case);
+    let tally = run(Series::new("large inputs", 100_000_000, 300), large_case);
     tally.expect_common_answers(1);
 }
 
@@ -163,6 +164,26 @@ fn link_n_keeps_to_its_words() {
 #[test]
 fn kind_two_is_kind_five_completed() {
     assert_completed_lists_are_the_same(&ByNodes(Host), List::Demands);
+}
+
+#[test]
+fn kind_three_is_kind_seven_completed() {
+    assert_completed_lists_are_the_same(&ByNodes(Host), List::Record);
+}
+
+#[test]
+fn exits_are_what_does_not_go_through() {
+    assert_exits_are_what_does_not_go_through(&ByNodes(Host));
+}
+
+#[test]
+fn record_accounts_for_all_vehicles() {
+    assert_record_accounts_for_all_vehicles(&ByNodes(Host));
+}
+
+#[test]
+fn every_exit_is_tested() {
+    assert_every_exit_is_tested(&ByNodes(Host));
 }
 
 #[test]

@@ -46,8 +46,7 @@ fn random_inputs() {
     tally.expect("full lines", &[0], 1_000);
 }
 
-/// Sizes whose three files have just that many bytes, for all N, with corridor and demands of those
-/// kinds.
+/// Sizes whose three files have just that many bytes, for all N, being of those kinds.
 fn sizes_of(bytes: usize, kinds: Kinds) -> Vec<Size> {
     let all = (1..=MOST_LINKS).flat_map(|n| (1..=MOST_STEPS).map(move |k| Size::new(n, k)));
     let all = all.map(|size| size.expect("within limits"));
@@ -110,8 +109,8 @@ fn inputs_that_end_early() {
 /// that these answers came up.
 fn run_with_another_kind_said(list: List, numbers: &[u32]) {
     let program = Executable::new();
-    // The kinds of either list then differ in their number of blocks.
-    let size = Size { links: 11, steps: 5 };
+    // The kinds of each list then differ in their number of blocks.
+    let size = Size { links: 11, steps: 10 };
     let mut tally = Tally::default();
     for kinds in Kinds::all() {
         let case = sound_case_of(&mut Random::new(210_000_000), size, kinds, false);
@@ -138,6 +137,18 @@ fn corridors_that_say_another_kind() {
 #[test]
 fn demands_that_say_another_kind() {
     run_with_another_kind_said(List::Demands, &[0, 14, 16]);
+}
+
+/// The record is the last file: where it is of another length than its kind tells, that is seen from
+/// the input's.
+#[test]
+fn records_that_say_another_kind() {
+    run_with_another_kind_said(List::Record, &[0, 14, 16]);
+}
+
+#[test]
+fn kind_three_is_kind_seven_completed() {
+    assert_completed_inputs_are_the_same(&Executable::new(), List::Record);
 }
 
 #[test]

@@ -6,10 +6,12 @@ use tests::compare::{compare_limit_on_words, compare_words, Series};
 use tests::completed::*;
 use tests::downstream::*;
 use tests::examples::assert_word_examples;
-use tests::examples::capacity_drop::{b_above_jam, b_of_all_kinds};
+use tests::examples::capacity_drop::b_above_jam;
+use tests::examples::off_ramps::{b_of_all_kinds, b_with_a_rest};
 use tests::host::Host;
 use tests::limits::{greatest, limit_cases};
 use tests::model::{Kinds, List, Paper, Quick, Size};
+use tests::off_ramps::*;
 use tests::properties::*;
 use tests::random::damage::{full_size, large_case, short_ramp_case, small_case};
 use tests::random::sound::{sound_case_of, WordCase};
@@ -17,6 +19,7 @@ use tests::random::Random;
 use tests::sweeps::{each_length_changed, each_word_changed};
 use tests::tally::capacity_drop::DROP_REFUSALS;
 use tests::tally::kinds::CALLS_BY_KIND;
+use tests::tally::off_ramps::EXIT_REFUSALS;
 use tests::tally::Tally;
 
 /// Runs a series and asserts that no difference was found.
@@ -33,14 +36,14 @@ fn worked_cases_and_table() {
     assert_word_examples(&Host);
 }
 
-/// B and a longer case, with a corridor and demands of both kinds, with one word or one length
-/// changed, every place in turn.
+/// B and a longer case, with a corridor, demands and a record of both kinds, with one word or one
+/// length changed, every place in turn.
 #[test]
 fn every_place_changed() {
     let size = Size { links: 3, steps: 3 };
     let longer = |kinds| sound_case_of(&mut Random::new(4), size, kinds, false);
     let mut tally = Tally::default();
-    let b = b_of_all_kinds().into_iter().chain([b_above_jam()]);
+    let b = b_of_all_kinds().into_iter().chain([b_above_jam(), b_with_a_rest()]);
     for case in b.chain(Kinds::all().map(longer)) {
         let mut compare = |case: &WordCase| {
             assert_eq!(compare_words([&Paper, &Host], case, &mut tally), Ok(()), "{case:?}");
@@ -58,6 +61,8 @@ fn every_place_changed() {
         tally.expect(name, &[0], 10);
     }
     DROP_REFUSALS.iter().for_each(|name| tally.expect(name, &[0], 2));
+    let one_word = EXIT_REFUSALS.iter().filter(|name| name.ends_with("alone"));
+    one_word.for_each(|name| tally.expect(name, &[0], 10));
 }
 
 #[test]
@@ -150,6 +155,26 @@ fn kind_two_is_kind_five_completed() {
 #[test]
 fn kind_one_is_kind_ten_completed() {
     assert_completed_lists_are_the_same(&Host, List::Corridor);
+}
+
+#[test]
+fn kind_three_is_kind_seven_completed() {
+    assert_completed_lists_are_the_same(&Host, List::Record);
+}
+
+#[test]
+fn exits_are_what_does_not_go_through() {
+    assert_exits_are_what_does_not_go_through(&Host);
+}
+
+#[test]
+fn record_accounts_for_all_vehicles() {
+    assert_record_accounts_for_all_vehicles(&Host);
+}
+
+#[test]
+fn every_exit_is_tested() {
+    assert_every_exit_is_tested(&Host);
 }
 
 #[test]

@@ -43,7 +43,7 @@ fn node(random: &mut Random, i: usize, links: usize) -> Node {
 /// 64 links and 1,440 steps, every ramp as long as any and with a long queue, some links held and
 /// some with too little room, so that the search for a rate has everything to do. With demands of
 /// kind 5 less may leave the last link in some steps than it sends; with a corridor of kind 10
-/// links pass their drop densities both ways.
+/// links pass their drop densities both ways; a record of kind 7 lists the exits.
 fn lists(kinds: Kinds) -> Lists {
     let size = full_size();
     let mut random = Random::new(1);
@@ -65,7 +65,7 @@ fn lists(kinds: Kinds) -> Lists {
     }
     let corridor = corridor_of(kinds.corridor, &nodes);
     let input = Input::new(&corridor, &demands).expect("made to these lengths");
-    let record = record_of_plan(&input, &plan);
+    let record = record_of_plan(&input, &plan).words(kinds.record);
     Lists { corridor, demands, plan, record }
 }
 
@@ -132,6 +132,7 @@ fn bench_files(oldest: &Lists, newest: &Lists) {
         &oldest.plan,
         &newest.demands,
         &newest.corridor,
+        &newest.record,
     ];
     for (kind, words) in KINDS.into_iter().zip(all) {
         let (file, list) = (file_of(kind, words), kind.list());
@@ -155,6 +156,8 @@ fn main() {
     bench_words(&lists(downstream), "demands of kind 5");
     let drop = Kinds { corridor: Kind::CapacityDrop, ..Kinds::OLDEST };
     bench_words(&lists(drop), "corridor of kind 10");
+    let off_ramps = Kinds { record: Kind::OffRamps, ..Kinds::OLDEST };
+    bench_words(&lists(off_ramps), "record of kind 7");
     #[cfg(feature = "files")]
     bench_files(&oldest, &lists(Kinds::NEWEST));
 }

@@ -54,11 +54,6 @@ pub fn with_drop(case: WordCase) -> WordCase {
     WordCase { kinds, corridor: b_drop().corridor, ..case }
 }
 
-/// B with the corridor and the demands of either kind, and its record then.
-pub fn b_of_all_kinds() -> [WordCase; 4] {
-    [b(), b_downstream(), b_drop(), with_drop(b_downstream())]
-}
-
 /// B with words of its nodes changed, each given by node and place.
 fn changed(words: &[(usize, usize, u32)]) -> WordCase {
     let mut case = b_drop();

@@ -1,27 +1,26 @@
 //! The checker of a proposed record: refusals 1 to 5, then 7 over the whole record, then 8 to 12
 //! by step, node and number, then 13.
 
-use super::lists::same_length;
-use super::simulate::{entry, inflow};
-use super::{refuse_if, Input, NodeStep, Outcome, Rules};
+use super::simulate::inflow;
+use super::{refusal, refuse_if, Entry, Input, NodeStep, Outcome, Record, Rules, Size};
 
 /// Whether a record is one that some valid plan has.
 pub fn check<R: Rules>(corridor: &[u32], demands: &[u32], record: &[u32]) -> Outcome {
     let input = Input::by::<R>(corridor, demands)?;
-    same_length(record.len(), input.size.record())?;
+    let record = Record::by::<R>(input.size, record)?;
     R::test_input(&input)?;
-    R::check_record(&input, record)
+    R::check_record(&input, &record)
 }
 
-/// Refusals 7 to 13 for a record of the right length.
-pub fn check_record<R: Rules>(input: &Input, record: &[u32]) -> Outcome {
+/// Refusals 7 to 13 for a record of either kind.
+pub fn check_record<R: Rules>(input: &Input, record: &Record) -> Outcome {
     check_fixed::<R>(input, record)?;
     check_steps::<R>(input, record)?;
-    check_cost::<R>(input, record)
+    check_cost::<R>(record)
 }
 
 /// Refusal 7, first place by state, then node.
-pub fn check_fixed<R: Rules>(input: &Input, record: &[u32]) -> Outcome {
+pub fn check_fixed<R: Rules>(input: &Input, record: &Record) -> Outcome {
     for k in 0..=input.size.steps {
         for i in 0..input.size.nodes() {
             refuse_if(R::fixed_fault(input, record, k, i), 7, k, i)?;
@@ -31,12 +30,12 @@ pub fn check_fixed<R: Rules>(input: &Input, record: &[u32]) -> Outcome {
 }
 
 /// Refusals 8 to 12, first place by step, node, number.
-pub fn check_steps<R: Rules>(input: &Input, record: &[u32]) -> Outcome {
+pub fn check_steps<R: Rules>(input: &Input, record: &Record) -> Outcome {
     for k in 0..input.size.steps {
         for i in 0..input.size.nodes() {
             let here = Proposal::new::<R>(input, record, k, i);
-            for number in R::NODE_ORDER {
-                refuse_if(R::step_fault(number, &here), number, k, i)?;
+            if let Some(number) = R::first_fault(&here) {
+                return Err(refusal(number, k, i));
             }
         }
     }
@@ -44,28 +43,26 @@ pub fn check_steps<R: Rules>(input: &Input, record: &[u32]) -> Outcome {
 }
 
 /// Refusal 13.
-pub fn check_cost<R: Rules>(input: &Input, record: &[u32]) -> Outcome {
-    let cost = R::cost(input.size, record);
-    let end = record.len();
-    let proposed = u64::from(record[end - 2]) + (u64::from(record[end - 1]) << 32);
-    refuse_if(proposed != cost, 13, 0, 0)
+pub fn check_cost<R: Rules>(record: &Record) -> Outcome {
+    refuse_if(record.cost != R::cost(record), 13, 0, 0)
 }
 
-/// The words of state k.
-pub fn state<'a>(input: &Input, record: &'a [u32], k: usize) -> &'a [u32] {
-    &record[input.size.record_place(k, 0)..input.size.record_place(k + 1, 0)]
+/// Where an exit is fixed at zero: nodes 0 and N have no off-ramp, and no step leaves state K.
+pub fn exit_is_fixed(size: Size, k: usize, i: usize) -> bool {
+    i == 0 || i == size.links || k == size.steps
 }
 
 /// Refusal 7: state 0 not the corridor's start, or a fixed zero not zero.
-pub fn fixed_fault(input: &Input, record: &[u32], k: usize, i: usize) -> bool {
-    let [vehicles, queue, flow, ramp_flow] = entry(state(input, record, k), i);
+pub fn fixed_fault<R: Rules>(input: &Input, record: &Record, k: usize, i: usize) -> bool {
+    let Entry { vehicles, queue, flow, ramp_flow, exit } = record.entry(k, i);
     let node = input.node(i);
     let start = (node.start_vehicles.into(), node.start_queue.into());
     let other_start = k == 0 && (vehicles, queue) != start;
     let last_state = k == input.size.steps && (flow, ramp_flow) != (0, 0);
     let no_link = i == 0 && (vehicles, flow) != (0, 0);
     let no_ramp = i == input.size.links && (queue, ramp_flow) != (0, 0);
-    other_start || last_state || no_link || no_ramp
+    let no_exit = R::exit_is_fixed(input.size, k, i) && exit.unwrap_or(0) != 0;
+    other_start || last_state || no_link || no_ramp || no_exit
 }
 
 /// One node at one step of a proposed record: all that refusals 8 to 12 look at.
@@ -73,6 +70,9 @@ pub struct Proposal {
     pub at: NodeStep,
     pub flow: u64,
     pub ramp_flow: u64,
+    /// The off-ramp flow, if the record is of kind 7, and what it should be.
+    pub exit: Option<u64>,
+    pub right_exit: u64,
     pub inflow: u64,
     pub next_vehicles: u64,
     pub next_queue: u64,
@@ -80,17 +80,17 @@ pub struct Proposal {
 }
 
 impl Proposal {
-    pub fn new<R: Rules>(input: &Input, record: &[u32], k: usize, i: usize) -> Proposal {
-        let now = state(input, record, k);
-        let [_, _, flow, ramp_flow] = entry(now, i);
-        let [next_vehicles, next_queue, _, _] = entry(state(input, record, k + 1), i);
+    pub fn new<R: Rules>(input: &Input, record: &Record, k: usize, i: usize) -> Proposal {
+        let (state, here, next) = (record.state(k), record.entry(k, i), record.entry(k + 1, i));
         Proposal {
-            at: NodeStep::new::<R>(input, now, k, i),
-            flow,
-            ramp_flow,
-            inflow: inflow::<R>(input, k, now, i),
-            next_vehicles,
-            next_queue,
+            at: NodeStep::new::<R>(input, state, k, i),
+            flow: here.flow,
+            ramp_flow: here.ramp_flow,
+            exit: here.exit,
+            right_exit: R::listed_exit(input, record, k, i),
+            inflow: inflow::<R>(input, k, state, i),
+            next_vehicles: next.vehicles,
+            next_queue: next.queue,
             queue_limit: input.node(i).queue_limit.into(),
         }
     }
@@ -100,13 +100,18 @@ impl Proposal {
 pub fn step_fault<R: Rules>(number: u32, here: &Proposal) -> bool {
     match number {
         8..=10 => flow_fault::<R>(number, &here.at, here.flow, here.ramp_flow),
-        11 => next_fault(here),
+        11 => R::exit_fault(here) || next_fault(here),
         _ => here.next_queue > here.queue_limit,
     }
 }
 
-/// Refusal 11: rule 6, written without taking away.
-fn next_fault(here: &Proposal) -> bool {
+/// Refusal 11, just after 10: the exit, if the record lists it, is not what leaves by the off-ramp.
+pub fn exit_fault(here: &Proposal) -> bool {
+    here.exit.is_some_and(|exit| exit != here.right_exit)
+}
+
+/// Refusal 11, just before 12: rule 6, written without taking away.
+pub fn next_fault(here: &Proposal) -> bool {
     let vehicles = here.at.vehicles + here.inflow;
     let queue = here.at.queue + here.at.arrivals;
     here.next_vehicles + here.flow != vehicles || here.next_queue + here.ramp_flow != queue

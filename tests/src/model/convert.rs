@@ -1,10 +1,9 @@
 //! The converter and the normal form: a setting for each node and step of an accepted record.
 
-use super::check::state;
 use super::lists::{same_length, test_plan};
 use super::rules::flows;
-use super::simulate::{entry, run};
-use super::{Input, NodeStep, Outcome, Rules};
+use super::simulate::run;
+use super::{Input, List, NodeStep, Outcome, Record, Rules};
 
 /// A node's setting at a step: full with a rate, or held with a rate at a limit.
 #[derive(Clone, Copy, Debug, PartialEq, Eq)]
@@ -21,15 +20,16 @@ pub fn convert<R: Rules>(
     plan: &mut [u32],
 ) -> Outcome {
     let input = Input::by::<R>(corridor, demands)?;
-    same_length(record.len(), input.size.record())?;
+    let record = Record::by::<R>(input.size, record)?;
     same_length(plan.len(), input.size.plan())?;
     R::test_input(&input)?;
-    R::check_record(&input, record)?;
-    write_plan::<R>(&input, record, plan);
+    R::check_record(&input, &record)?;
+    write_plan::<R>(&input, &record, plan);
     Ok(())
 }
 
-/// Simulates into the work record, then converts. A refusal by 12 leaves the work record filled.
+/// Simulates into the work record, of either kind, then converts. A refusal by 12 leaves the work
+/// record filled.
 pub fn normal<R: Rules>(
     corridor: &[u32],
     demands: &[u32],
@@ -39,18 +39,19 @@ pub fn normal<R: Rules>(
 ) -> Outcome {
     let input = Input::by::<R>(corridor, demands)?;
     same_length(plan.len(), input.size.plan())?;
-    same_length(work.len(), input.size.record())?;
+    let kind = R::kind_of_length(List::Record, input.size, work.len())?;
     same_length(normal.len(), input.size.plan())?;
     R::test_input(&input)?;
     test_plan::<R>(&input, plan)?;
-    run::<R>(&input, plan, work);
-    R::check_record(&input, work)?;
-    write_plan::<R>(&input, work, normal);
+    R::write_record(&run::<R>(&input, plan), kind, work);
+    let record = R::record_of_words(kind, input.size, work);
+    R::check_record(&input, &record)?;
+    write_plan::<R>(&input, &record, normal);
     Ok(())
 }
 
 /// The setting of every node at every step, as rates and limits.
-pub fn write_plan<R: Rules>(input: &Input, record: &[u32], plan: &mut [u32]) {
+pub fn write_plan<R: Rules>(input: &Input, record: &Record, plan: &mut [u32]) {
     for k in 0..input.size.steps {
         for i in 0..input.size.nodes() {
             let (rate, limit) = rate_and_limit(input, i, setting_at::<R>(input, record, k, i));
@@ -62,10 +63,10 @@ pub fn write_plan<R: Rules>(input: &Input, record: &[u32], plan: &mut [u32]) {
 }
 
 /// The setting of node i at step k of an accepted record.
-pub fn setting_at<R: Rules>(input: &Input, record: &[u32], k: usize, i: usize) -> Setting {
-    let now = state(input, record, k);
-    let [_, _, flow, ramp_flow] = entry(now, i);
-    R::setting(&NodeStep::new::<R>(input, now, k, i), flow, ramp_flow)
+pub fn setting_at<R: Rules>(input: &Input, record: &Record, k: usize, i: usize) -> Setting {
+    let here = record.entry(k, i);
+    let at = NodeStep::new::<R>(input, record.state(k), k, i);
+    R::setting(&at, here.flow, here.ramp_flow)
 }
 
 /// A setting as the plan writes it: full speed is V, which is 0 at node 0.

@@ -3,6 +3,7 @@
 
 use super::files::{file_bytes, words_of};
 use super::lists::{DROP_WORDS, NODE_WORDS};
+use super::record::{COST_WORDS, ENTRY_WORDS, EXIT_WORDS};
 use super::{refusal, Refusal, Size};
 
 /// The word lists; each has one reader and one writer for all its kinds.
@@ -23,12 +24,21 @@ pub enum Kind {
     Plan = 4,
     /// Demands that end with the flow that may leave link N in each step.
     Downstream = 5,
+    /// A record that has the off-ramp flow of each node after its other words.
+    OffRamps = 7,
     /// A corridor whose nodes end with dropped capacity and drop density.
     CapacityDrop = 10,
 }
 
-pub const KINDS: [Kind; 6] =
-    [Kind::Corridor, Kind::Demands, Kind::Record, Kind::Plan, Kind::Downstream, Kind::CapacityDrop];
+pub const KINDS: [Kind; 7] = [
+    Kind::Corridor,
+    Kind::Demands,
+    Kind::Record,
+    Kind::Plan,
+    Kind::Downstream,
+    Kind::CapacityDrop,
+    Kind::OffRamps,
+];
 
 impl List {
     /// The kinds that fit, the oldest first.
@@ -36,7 +46,7 @@ impl List {
         match self {
             List::Corridor => &[Kind::Corridor, Kind::CapacityDrop],
             List::Demands => &[Kind::Demands, Kind::Downstream],
-            List::Record => &[Kind::Record],
+            List::Record => &[Kind::Record, Kind::OffRamps],
             List::Plan => &[Kind::Plan],
         }
     }
@@ -67,7 +77,7 @@ impl Kind {
         match self {
             Kind::Corridor | Kind::CapacityDrop => List::Corridor,
             Kind::Demands | Kind::Downstream => List::Demands,
-            Kind::Record => List::Record,
+            Kind::Record | Kind::OffRamps => List::Record,
             Kind::Plan => List::Plan,
         }
     }
@@ -77,7 +87,7 @@ impl Kind {
         match self {
             Kind::Corridor | Kind::CapacityDrop => 1 + self.node_words() * size.nodes(),
             Kind::Demands => size.demands(),
-            Kind::Record => size.record(),
+            Kind::Record | Kind::OffRamps => self.cost_place(size) + COST_WORDS,
             Kind::Plan => size.plan(),
             Kind::Downstream => size.demands() + size.steps,
         }
@@ -89,6 +99,25 @@ impl Kind {
             Kind::CapacityDrop => NODE_WORDS + DROP_WORDS,
             _ => NODE_WORDS,
         }
+    }
+
+    /// The words of a node in one state of a record of that kind.
+    pub fn entry_words(self) -> usize {
+        match self {
+            Kind::OffRamps => ENTRY_WORDS + EXIT_WORDS,
+            _ => ENTRY_WORDS,
+        }
+    }
+
+    /// Where a record of that kind has n of node i in state k; l, f, r and, in kind 7, the off-ramp
+    /// flow follow.
+    pub fn entry_place(self, size: Size, k: usize, i: usize) -> usize {
+        self.entry_words() * (k * size.nodes() + i)
+    }
+
+    /// Where a record of that kind has the low word of its cost, behind states 0..K.
+    pub fn cost_place(self, size: Size) -> usize {
+        self.entry_place(size, size.steps + 1, 0)
     }
 
     /// The N or K that the kind's first word states, if it states one.
@@ -106,21 +135,27 @@ impl Kind {
     }
 }
 
-/// The kinds of an input's corridor and demands.
+/// The kinds of corridor, demands and record.
 #[derive(Clone, Copy, Debug, PartialEq, Eq)]
 pub struct Kinds {
     pub corridor: Kind,
     pub demands: Kind,
+    pub record: Kind,
 }
 
 impl Kinds {
-    pub const OLDEST: Kinds = Kinds { corridor: Kind::Corridor, demands: Kind::Demands };
-    pub const NEWEST: Kinds = Kinds { corridor: Kind::CapacityDrop, demands: Kind::Downstream };
+    pub const OLDEST: Kinds =
+        Kinds { corridor: Kind::Corridor, demands: Kind::Demands, record: Kind::Record };
+    pub const NEWEST: Kinds =
+        Kinds { corridor: Kind::CapacityDrop, demands: Kind::Downstream, record: Kind::OffRamps };
 
-    /// Each kind of corridor with each kind of demands.
+    /// Each kind of corridor with each kind of demands and each kind of record.
     pub fn all() -> impl Iterator<Item = Kinds> + Clone {
-        List::Corridor.kinds().iter().flat_map(|&corridor| {
-            List::Demands.kinds().iter().map(move |&demands| Kinds { corridor, demands })
+        let kinds_of = |list: List| list.kinds().iter().copied();
+        kinds_of(List::Corridor).flat_map(move |corridor| {
+            kinds_of(List::Demands).flat_map(move |demands| {
+                kinds_of(List::Record).map(move |record| Kinds { corridor, demands, record })
+            })
         })
     }
 }

@@ -12,7 +12,6 @@ pub const NODE_WORDS: usize = 9;
 pub const DROP_WORDS: usize = 2;
 pub const DEMAND_WORDS: usize = 2;
 pub const PLAN_WORDS: usize = 2;
-pub const RECORD_WORDS: usize = 4;
 
 /// Numbers of links and steps, and the lengths that follow from them; `new` holds them to the
 /// limits.
@@ -43,11 +42,6 @@ impl Size {
         PLAN_WORDS * self.nodes() * self.steps
     }
 
-    /// States 0..K, then the two words of the cost.
-    pub fn record(self) -> usize {
-        RECORD_WORDS * self.nodes() * (self.steps + 1) + 2
-    }
-
     /// Where the demands' Q stands; b follows.
     pub fn demand_place(self, k: usize, i: usize) -> usize {
         1 + DEMAND_WORDS * (k * self.nodes() + i)
@@ -61,11 +55,6 @@ impl Size {
     /// Where the plan's rate stands; the limit follows.
     pub fn plan_place(self, k: usize, i: usize) -> usize {
         PLAN_WORDS * (k * self.nodes() + i)
-    }
-
-    /// Where the record's n stands; l, f and r follow.
-    pub fn record_place(self, k: usize, i: usize) -> usize {
-        RECORD_WORDS * (k * self.nodes() + i)
     }
 }
 

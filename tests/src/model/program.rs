@@ -2,7 +2,7 @@
 
 use super::convert::{rate_and_limit, setting_at};
 use super::files::{read_three, words_of};
-use super::{refusal, refuse_if, Input, Kind, Kinds, List, Refusal, Rules, Setting, Size};
+use super::{refusal, refuse_if, Input, Kinds, List, Record, Refusal, Rules, Setting, Size};
 
 pub const MOST_BYTES: usize = 65_536;
 
@@ -19,29 +19,32 @@ fn plan_text<R: Rules>(bytes: &[u8]) -> Result<String, Refusal> {
     let (size, files) = three_files::<R>(bytes)?;
     let [corridor, demands, record] = read_three::<R>(size, files)?;
     let input = Input::by::<R>(&corridor, &demands)?;
+    let record = Record::by::<R>(size, &record)?;
     R::test_input(&input)?;
     R::check_record(&input, &record)?;
     Ok(lines::<R>(&input, &record))
 }
 
 /// The input's size and its three files: 14 above 65,536 bytes, then N and K, then 14 unless the
-/// length is just that of the files, corridor and demands being of the kinds that their own first
-/// blocks name.
+/// length is just that of the files, each being of the kind that its own first block names.
 pub fn three_files<R: Rules>(bytes: &[u8]) -> Result<(Size, [&[u8]; 3]), Refusal> {
     refuse_if(bytes.len() > MOST_BYTES, 14, 0, 0)?;
     let size = R::program_size(bytes)?;
     let corridor = R::kind_of_file(List::Corridor, bytes);
-    let demands = R::kind_of_file(List::Demands, &bytes[corridor.bytes(size)..]);
-    let ends = file_ends(size, Kinds { corridor, demands });
+    let demands_file = &bytes[corridor.bytes(size)..];
+    let demands = R::kind_of_file(List::Demands, demands_file);
+    let record_file = demands_file.get(demands.bytes(size)..).unwrap_or(&[]);
+    let record = R::kind_of_file(List::Record, record_file);
+    let ends = file_ends(size, Kinds { corridor, demands, record });
     refuse_if(bytes.len() != ends[2], 14, 0, 0)?;
     Ok((size, [&bytes[..ends[0]], &bytes[ends[0]..ends[1]], &bytes[ends[1]..]]))
 }
 
-/// Where the corridor's, the demands' and the record's file end, the first two of those kinds.
+/// Where the files of corridor, demands and record end that are of those kinds.
 pub fn file_ends(size: Size, kinds: Kinds) -> [usize; 3] {
     let corridor_end = kinds.corridor.bytes(size);
     let demands_end = corridor_end + kinds.demands.bytes(size);
-    [corridor_end, demands_end, demands_end + Kind::Record.bytes(size)]
+    [corridor_end, demands_end, demands_end + kinds.record.bytes(size)]
 }
 
 /// N is word 2 of the corridor's first block, K that of the demands' first block, which stands
@@ -59,8 +62,8 @@ fn word_two(bytes: &[u8], block: usize) -> Result<u32, Refusal> {
 }
 
 /// The first line, then one line for each step and node.
-fn lines<R: Rules>(input: &Input, record: &[u32]) -> String {
-    let cost = R::cost(input.size, record);
+fn lines<R: Rules>(input: &Input, record: &Record) -> String {
+    let cost = record.cost;
     let mut text = format!("PLAN {} {} {cost}\n", input.size.steps, input.size.nodes());
     for k in 0..input.size.steps {
         for i in 0..input.size.nodes() {

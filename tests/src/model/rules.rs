@@ -2,7 +2,7 @@
 //! differs from the papers in just one of them.
 
 use super::{check, convert, files, lists};
-use super::{Input, Kind, List, Node, Outcome, Refusal, Setting, Size, WHOLE};
+use super::{Entry, Input, Kind, List, Node, Outcome, Record, Refusal, Setting, Size, WHOLE};
 
 /// One node at one step: all that rules 1 to 5 use, taken from the state at the step's start.
 #[derive(Clone, Copy, Debug)]
@@ -21,8 +21,8 @@ pub struct NodeStep {
 }
 
 impl NodeStep {
-    /// Node i at step k; `state` holds the n, l, f, r of all nodes in state k.
-    pub fn new<R: Rules>(input: &Input, state: &[u32], k: usize, i: usize) -> NodeStep {
+    /// Node i at step k; `state` holds all nodes in state k.
+    pub fn new<R: Rules>(input: &Input, state: &[Entry], k: usize, i: usize) -> NodeStep {
         let node = input.node(i);
         NodeStep {
             capacity: node.capacity.into(),
@@ -30,8 +30,8 @@ impl NodeStep {
             drop_density: node.drop_density.into(),
             full_speed: node.full_speed.into(),
             ramp_capacity: node.ramp_capacity.into(),
-            vehicles: state[lists::RECORD_WORDS * i].into(),
-            queue: state[lists::RECORD_WORDS * i + 1].into(),
+            vehicles: state[i].vehicles,
+            queue: state[i].queue,
             arrivals: input.arrivals(k, i),
             split: input.split(k, i),
             supply: R::supply(input, state, k, i),
@@ -68,6 +68,15 @@ pub trait Rules: Sync + Sized {
         list.kind_of_file(file)
     }
 
+    /// A record of that kind out of its words, and into a list of its length.
+    fn record_of_words(kind: Kind, size: Size, words: &[u32]) -> Record {
+        Record::from_words(kind, size, words)
+    }
+
+    fn write_record(record: &Record, kind: Kind, words: &mut [u32]) {
+        record.write(kind, words);
+    }
+
     /// What a link may discharge: F up to its drop density, the dropped capacity above it.
     fn discharge(at: &NodeStep) -> u64 {
         if at.vehicles <= at.drop_density {
@@ -81,9 +90,19 @@ pub trait Rules: Sync + Sized {
         (at.vehicles * limit / WHOLE).min(Self::discharge(at))
     }
 
-    /// Rule 2. What leaves by the off-ramp is rounded down, so the through part is not.
+    /// What leaves by an off-ramp, rounded down.
+    fn exit(flow: u64, split: u64) -> u64 {
+        flow * split / WHOLE
+    }
+
+    /// Rule 2. The exit is rounded down, so the through part is not.
     fn through(flow: u64, split: u64) -> u64 {
-        flow - flow * split / WHOLE
+        flow - Self::exit(flow, split)
+    }
+
+    /// The off-ramp flow that a record of kind 7 lists for node i in step k.
+    fn listed_exit(input: &Input, record: &Record, k: usize, i: usize) -> u64 {
+        Self::exit(record.entry(k, i).flow, input.split(k, i))
     }
 
     /// Rule 3. Node N has no ramp: its l and C are zero, and so is d.
@@ -92,16 +111,16 @@ pub trait Rules: Sync + Sized {
     }
 
     /// Rule 4 for one link, which keeps F above its drop density too.
-    fn receiving(input: &Input, state: &[u32], link: usize) -> u64 {
+    fn receiving(input: &Input, state: &[Entry], link: usize) -> u64 {
         let node = input.node(link);
-        let vehicles = u64::from(state[lists::RECORD_WORDS * link]);
-        let room = u64::from(node.wave_speed) * (u64::from(node.jam) - vehicles) / WHOLE;
+        let free = u64::from(node.jam) - state[link].vehicles;
+        let room = u64::from(node.wave_speed) * free / WHOLE;
         room.min(node.capacity.into())
     }
 
     /// S of node i's merge in step k: what the next link receives, at node N the flow that may leave
     /// link N.
-    fn supply(input: &Input, state: &[u32], k: usize, i: usize) -> u64 {
+    fn supply(input: &Input, state: &[Entry], k: usize, i: usize) -> u64 {
         if i == input.size.links {
             return input.downstream(k);
         }
@@ -128,10 +147,9 @@ pub trait Rules: Sync + Sized {
     }
 
     /// Total cost: the sum of all n and l over states 1..K.
-    fn cost(size: Size, record: &[u32]) -> u64 {
-        let states = &record[size.record_place(1, 0)..size.record_place(size.steps + 1, 0)];
-        let entries = states.chunks_exact(lists::RECORD_WORDS);
-        entries.map(|entry| u64::from(entry[0]) + u64::from(entry[1])).sum()
+    fn cost(record: &Record) -> u64 {
+        let later = &record.entries[record.size.nodes()..];
+        later.iter().map(|entry| entry.vehicles + entry.queue).sum()
     }
 
     /// Whether refusal 2 is due for the two words of node i's drop.
@@ -164,9 +182,19 @@ pub trait Rules: Sync + Sized {
         lists::plan_fault(input, i, rate, limit)
     }
 
+    /// Whether the exit of state k, node i is fixed at zero, so that refusal 7 is due for any other.
+    fn exit_is_fixed(size: Size, k: usize, i: usize) -> bool {
+        check::exit_is_fixed(size, k, i)
+    }
+
     /// Whether refusal 7 is due at state k, node i.
-    fn fixed_fault(input: &Input, record: &[u32], k: usize, i: usize) -> bool {
-        check::fixed_fault(input, record, k, i)
+    fn fixed_fault(input: &Input, record: &Record, k: usize, i: usize) -> bool {
+        check::fixed_fault::<Self>(input, record, k, i)
+    }
+
+    /// Whether refusal 11 is due at a node and step for its exit.
+    fn exit_fault(here: &check::Proposal) -> bool {
+        check::exit_fault(here)
     }
 
     /// Whether refusal 8, 9, 10, 11 or 12 is due at a node and step.
@@ -174,8 +202,13 @@ pub trait Rules: Sync + Sized {
         check::step_fault::<Self>(number, here)
     }
 
+    /// The first of refusals 8 to 12 that is due at a node and step.
+    fn first_fault(here: &check::Proposal) -> Option<u32> {
+        Self::NODE_ORDER.into_iter().find(|&number| Self::step_fault(number, here))
+    }
+
     /// Refusals 7 to 13.
-    fn check_record(input: &Input, record: &[u32]) -> Outcome {
+    fn check_record(input: &Input, record: &Record) -> Outcome {
         check::check_record::<Self>(input, record)
     }
 

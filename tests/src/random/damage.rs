@@ -1,12 +1,13 @@
-//! Cases with damage: words changed, flows moved by one, lists cut and extended, wrong N and K, a
-//! corridor or demands of the other kind, records that break rules; and the mixes of cases that the
-//! tests run.
+//! Cases with damage: words changed, flows moved by one, wrong exits, lists cut and extended, wrong
+//! N and K, a corridor, demands or a record of the other kind, records that break rules; and the
+//! mixes of cases that the tests run.
 
 use super::records::faulty_record;
 use super::sound::{sound_case, WordCase};
 use super::Random;
 use crate::model::lists::{corridor_of, test_input, Node, MOST_LINKS, MOST_STEPS, NODE_WORDS};
-use crate::model::{Input, Kind, Quick, Size, WHOLE};
+use crate::model::record::ENTRY_WORDS;
+use crate::model::{Entry, Input, Kind, List, Quick, Record, Refusal, Rules, Size, WHOLE};
 
 /// A size with at most that many links and steps.
 pub fn size(random: &mut Random, links: u64, steps: u64) -> Size {
@@ -59,24 +60,27 @@ pub fn mixed_case(random: &mut Random, size: Size, short_ramps: bool) -> WordCas
 
 /// One kind of damage.
 fn damage(random: &mut Random, case: &mut WordCase) {
-    match random.below(39) {
+    match random.below(54) {
         0..=2 => change_words(random, &mut case.corridor),
         3 | 4 => change_words(random, &mut case.demands),
         5 | 6 => change_words(random, &mut case.plan),
         7 | 8 => change_words(random, &mut case.record),
         9 => repeat_identifier(random, case),
         10 | 11 => change_cost(random, &mut case.record),
-        12 => cut_or_extend_one(random, case),
-        13 => change_lent(random, case),
-        14 => change_count(random, case),
-        15 | 16 => change_state(random, case),
-        17 => move_flow(random, case),
-        18 | 19 => overfill_start(random, case),
-        20 | 21 => change_fixed(random, case),
-        22 | 23 => change_downstream(random, case),
-        24 | 25 => change_demands_kind(random, case),
-        26..=28 => change_drop(random, case),
-        29 | 30 => change_corridor_kind(random, case),
+        12 | 13 => cut_or_extend_one(random, case),
+        14 => change_lent(random, case),
+        15 => change_count(random, case),
+        16 | 17 => change_state(random, case),
+        18 => move_flow(random, case),
+        19 | 20 => overfill_start(random, case),
+        21 | 22 => change_fixed(random, case),
+        23..=25 => change_downstream(random, case),
+        26 | 27 => change_demands_kind(random, case),
+        28..=31 => change_drop(random, case),
+        32 | 33 => change_corridor_kind(random, case),
+        34..=40 => change_exit(random, case),
+        41 | 42 => change_record_kind(random, case),
+        43 => lend_another_kind(random, case),
         _ => propose_faulty(random, case),
     }
 }
@@ -159,17 +163,28 @@ fn change_count(random: &mut Random, case: &mut WordCase) {
     }
 }
 
-/// Corridor and demands if their lengths are still right, as later damage needs.
+/// Corridor and demands if their lengths and the record's are still right, as later damage needs.
 fn input_of<'a>(case: &'a WordCase) -> Option<Input<'a>> {
+    Some(input_and_kind(case)?.0)
+}
+
+/// The same with the kind that the record's length tells.
+fn input_and_kind<'a>(case: &'a WordCase) -> Option<(Input<'a>, Kind)> {
     let input = Input::new(&case.corridor, &case.demands).ok()?;
-    (input.size.record() == case.record.len()).then_some(input)
+    let kind = List::Record.kind_of_length(input.size, case.record.len()).ok()?;
+    Some((input, kind))
+}
+
+/// The size and the kind of a case's record, if its lengths are still right.
+fn record_form(case: &WordCase) -> Option<(Size, Kind)> {
+    input_and_kind(case).map(|(input, kind)| (input.size, kind))
 }
 
 /// A flow one more or one less, without anything else following.
 fn move_flow(random: &mut Random, case: &mut WordCase) {
-    if let Some(size) = input_of(case).map(|input| input.size) {
+    if let Some((size, kind)) = record_form(case) {
         let (k, i) = (random.below(size.steps), random.below(size.nodes()));
-        let place = size.record_place(k, i) + 2 + random.below(2);
+        let place = kind.entry_place(size, k, i) + 2 + random.below(2);
         let by = random.pick(&[1, u32::MAX]);
         case.record[place] = case.record[place].wrapping_add(by);
     }
@@ -177,9 +192,9 @@ fn move_flow(random: &mut Random, case: &mut WordCase) {
 
 /// An n or l of some state one more or one less, without anything else following.
 fn change_state(random: &mut Random, case: &mut WordCase) {
-    if let Some(size) = input_of(case).map(|input| input.size) {
+    if let Some((size, kind)) = record_form(case) {
         let (k, i) = (random.below(size.steps + 1), random.below(size.nodes()));
-        let place = size.record_place(k, i) + random.below(2);
+        let place = kind.entry_place(size, k, i) + random.below(2);
         let by = random.pick(&[1, u32::MAX]);
         case.record[place] = case.record[place].wrapping_add(by);
     }
@@ -240,16 +255,16 @@ fn change_corridor_kind(random: &mut Random, case: &mut WordCase) {
 
 /// A fixed zero, or a word of state 0, that is not what it should be.
 fn change_fixed(random: &mut Random, case: &mut WordCase) {
-    let Some(size) = input_of(case).map(|input| input.size) else {
+    let Some((size, kind)) = record_form(case) else {
         return;
     };
     let (k, i) = (random.below(size.steps + 1), random.below(size.nodes()));
     let half = random.below(2);
     let place = match random.below(4) {
-        0 => size.record_place(0, i) + half,
-        1 => size.record_place(size.steps, i) + 2 + half,
-        2 => size.record_place(k, 0) + 2 * half,
-        _ => size.record_place(k, size.links) + 1 + 2 * half,
+        0 => kind.entry_place(size, 0, i) + half,
+        1 => kind.entry_place(size, size.steps, i) + 2 + half,
+        2 => kind.entry_place(size, k, 0) + 2 * half,
+        _ => kind.entry_place(size, k, size.links) + 1 + 2 * half,
     };
     case.record[place] = random.strange_word(case.record[place]);
 }
@@ -289,8 +304,100 @@ fn change_demands_kind(random: &mut Random, case: &mut WordCase) {
 /// lists, so a case damaged before keeps its record.
 fn propose_faulty(random: &mut Random, case: &mut WordCase) {
     let sound = |input: &Input| test_input::<Quick>(input).is_ok();
-    let record = input_of(case).filter(sound).map(|input| faulty_record(random, &input));
-    if let Some(record) = record {
-        case.record = record;
+    let found = input_and_kind(case).filter(|(input, _)| sound(input));
+    if let Some((input, kind)) = found {
+        case.record = faulty_record(random, &input).words(kind);
+    }
+}
+
+/// A wrong exit in a record of kind 7, or in what the record would be as one: where it is fixed at
+/// zero, where the record is refused for something else, or at an inner node; perhaps with the next
+/// state wrong too.
+fn change_exit(random: &mut Random, case: &mut WordCase) {
+    if case.kinds.record == Kind::Record {
+        change_record_kind(random, case);
+    }
+    if random.one_in(4) {
+        propose_faulty(random, case);
+    }
+    let Some((input, Kind::OffRamps)) = input_and_kind(case) else {
+        return;
+    };
+    let (size, kind) = (input.size, Kind::OffRamps);
+    let record = Record::new(size, &case.record).expect("of a right length");
+    let (k, i) = exit_to_change(random, &input, &record);
+    let split = if k < size.steps { input.split(k, i) } else { WHOLE };
+    case.record[kind.entry_place(size, k, i) + ENTRY_WORDS] =
+        wrong_exit(random, &record.entry(k, i), split);
+    if k < size.steps && random.one_in(6) {
+        let next = kind.entry_place(size, k + 1, i) + random.below(2);
+        case.record[next] = case.record[next].wrapping_add(1);
+    }
+}
+
+/// The place of that exit, by state and node.
+fn exit_to_change(random: &mut Random, input: &Input, record: &Record) -> (usize, usize) {
+    let size = input.size;
+    let inner = match size.links {
+        1 => random.below(2),
+        links => 1 + random.below(links - 1),
+    };
+    let refused = test_input::<Quick>(input).and_then(|()| Quick::check_record(input, record));
+    match (random.below(16), refused) {
+        (0, _) => (random.below(size.steps + 1), 0),
+        (1, _) => (random.below(size.steps + 1), size.links),
+        (2 | 3, _) => (size.steps, inner),
+        (4..=9, Err(Refusal { number: 8..=12, row, node })) => (row as usize, node as usize),
+        _ => (random.below(size.steps), inner),
+    }
+}
+
+/// Mostly one more or less than it is; or the other part of the flow, all of it, the ramp's part,
+/// none, any word.
+fn wrong_exit(random: &mut Random, here: &Entry, split: u64) -> u32 {
+    let exit = here.exit.unwrap_or(0) as u32;
+    match random.below(10) {
+        0 | 1 => exit.wrapping_add(1),
+        2..=4 => exit.wrapping_sub(1),
+        5 => Quick::exit(here.flow, WHOLE.saturating_sub(split)) as u32,
+        6 => here.flow as u32,
+        7 => Quick::exit(here.ramp_flow, split.min(WHOLE)) as u32,
+        8 => 0,
+        _ => random.strange_word(exit),
+    }
+}
+
+/// The record as a list of the other kind: without its exits, or with those that its flows and the
+/// splits make, or with others.
+fn change_record_kind(random: &mut Random, case: &mut WordCase) {
+    let Some((input, kind)) = input_and_kind(case) else {
+        return;
+    };
+    let mut record = Record::new(input.size, &case.record).expect("of a right length");
+    let other = random.one_in(4);
+    for k in 0..input.size.steps {
+        for i in 0..input.size.nodes() {
+            let entry = record.entry_mut(k, i);
+            let split = input.split(k, i).min(WHOLE);
+            entry.exit = match other {
+                true => Some(random.within(0, 1)),
+                false => Some(Quick::exit(entry.flow, split)),
+            };
+        }
+    }
+    let kind = match kind {
+        Kind::Record => Kind::OffRamps,
+        _ => Kind::Record,
+    };
+    case.record = record.words(kind);
+    case.kinds.record = kind;
+}
+
+/// A lent record of the other kind's length, or of one word more or less than either kind has.
+fn lend_another_kind(random: &mut Random, case: &mut WordCase) {
+    if let Some((size, _)) = record_form(case) {
+        case.lent_kind = random.pick(List::Record.kinds());
+        let beside = case.lent_kind.words(size) as u64 + random.within(0, 2) - 1;
+        case.lent_record = beside as usize;
     }
 }

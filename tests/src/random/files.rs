@@ -9,7 +9,7 @@ use crate::model::files::{file_bytes, words_of, write_blocks, BLOCK_BYTES, CHECK
 use crate::model::kinds::KINDS;
 use crate::model::lists::{MOST_LINKS, MOST_STEPS};
 use crate::model::program::{file_ends, MOST_BYTES};
-use crate::model::{Kind, Kinds, Quick, Rules, Size};
+use crate::model::{Kind, Kinds, List, Quick, Rules, Size};
 
 /// What a reader and a writer of one list take.
 #[derive(Clone, Debug)]
@@ -63,7 +63,7 @@ impl ThreeFiles {
             k,
             corridor: file_of(case.kinds.corridor, &case.corridor),
             demands: file_of(case.kinds.demands, &case.demands),
-            record: file_of(Kind::Record, &case.record),
+            record: file_of(case.kinds.record, &case.record),
             lent_plan_file: file_bytes(case.plan.len()),
         }
     }
@@ -183,7 +183,7 @@ fn damage_file(random: &mut Random, file: &mut Vec<u8>) {
         8 => change_block(file, blocks - 1, CHECK - 1, |word| random.strange_word(word)),
         9 => change_block(file, block, random.below(CHECK), |word| random.strange_word(word)),
         10 => file.copy_within(BLOCK_BYTES * block..BLOCK_BYTES * (block + 1), 0),
-        11 | 12 => name_kind(file, random.pick(&[1, 2, 5, 10]), random.one_in(2)),
+        11 | 12 => name_kind(file, random.pick(&[1, 2, 3, 5, 7, 10]), random.one_in(2)),
         13 => {
             let more = random.pick(&[0, 0, 0, 256, 65_536, 1 << 31]);
             name_kind(file, random.within(0, 12) as u32 + more, random.one_in(2));
@@ -231,7 +231,7 @@ fn sized_three_files(random: &mut Random, size: Size) -> ThreeFiles {
     let case = mixed_case(random, size, false);
     let mut three = ThreeFiles::of_case(size, &case);
     for _ in 0..random.pick(&[0, 0, 0, 1, 2]) {
-        match random.below(8) {
+        match random.below(9) {
             0 => three.n = told(random, three.n),
             1 => three.k = told(random, three.k),
             2 => three.lent_plan_file = other_length(random, three.lent_plan_file),
@@ -252,38 +252,44 @@ pub fn program_input(random: &mut Random) -> Vec<u8> {
     let three = sized_three_files(random, size);
     let mut input = three.files().concat();
     if random.one_in(8) {
-        damage_input(random, &mut input, three.corridor.len());
+        let (corridor, demands) = (three.corridor.len(), three.demands.len());
+        damage_input(random, &mut input, [0, corridor, corridor + demands]);
     }
     input
 }
 
-/// A size whose three files the program takes, some of them nearly as long as it takes any.
+/// A size whose three files the program takes if all are of their oldest kind, or also if all are of
+/// their newest; some of them nearly as long as it takes any.
 fn fitting_size(random: &mut Random) -> Size {
+    let (kinds, entries) = random.pick(&[(Kinds::OLDEST, 2_700), (Kinds::NEWEST, 2_300)]);
     loop {
         let links = random.within(1, MOST_LINKS.into()) as u32;
-        let most_steps = (2_700 / (u64::from(links) + 1)).min(MOST_STEPS.into());
+        let most_steps = (entries / (u64::from(links) + 1)).min(MOST_STEPS.into());
         let any_steps = random.within(1, most_steps);
         let steps = random.pick(&[any_steps, most_steps]) as u32;
         let size = Size::new(links, steps).expect("within limits");
-        if file_ends(size, Kinds::NEWEST)[2] <= MOST_BYTES {
+        if file_ends(size, kinds)[2] <= MOST_BYTES {
             return size;
         }
     }
 }
 
-/// Damage to the input as a whole: N, K or the kind of corridor or demands changed, cut at any
-/// byte, extended, far too long. The demands' file begins at byte `demands`.
-fn damage_input(random: &mut Random, input: &mut Vec<u8>, demands: usize) {
+/// Damage to the input as a whole: N, K or a kind changed, cut at any byte, extended, far too long.
+/// The files begin at those bytes.
+fn damage_input(random: &mut Random, input: &mut Vec<u8>, files: [usize; 3]) {
+    let demands = files[1];
+    let file = random.below(files.len());
     match random.below(10) {
         0 => change_input_word(random, input, 8),
         1 => change_input_word(random, input, demands + 8),
         2 => input.truncate(random.below(input.len() + 1)),
         3 => input.truncate(demands + random.below(16)),
         4 => input.truncate(random.below(16)),
-        5 => change_input_word(random, input, demands),
-        6 if input.len() > demands => input[demands] = random.pick(&[2, 5]),
-        7 => change_input_word(random, input, 0),
-        8 if !input.is_empty() => input[0] = random.pick(&[1, 10]),
+        5 | 6 => change_input_word(random, input, files[file]),
+        7 | 8 if input.len() > files[file] => {
+            let kinds = [List::Corridor, List::Demands, List::Record][file].kinds();
+            input[files[file]] = random.pick(kinds) as u8;
+        }
         _ => input.resize(random.pick(&[MOST_BYTES - 1, MOST_BYTES, MOST_BYTES + 1, 100_000]), 0),
     }
 }

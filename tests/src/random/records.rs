@@ -4,56 +4,53 @@
 use super::Random;
 use crate::model::check::flow_fault;
 use crate::model::rules::flows;
-use crate::model::simulate::{entry, inflow, run, start, write_cost};
-use crate::model::{check, Input, NodeStep, Quick, Rules};
+use crate::model::simulate::{inflow, run};
+use crate::model::{Input, NodeStep, Quick, Record, Rules};
 
-pub fn record_of_plan(input: &Input, plan: &[u32]) -> Vec<u32> {
-    let mut record = vec![0; input.size.record()];
-    run::<Quick>(input, plan, &mut record);
-    record
+pub fn record_of_plan(input: &Input, plan: &[u32]) -> Record {
+    run::<Quick>(input, plan)
 }
 
-/// The record whose flows `choose` gives for each step and node. Each next state and the cost
-/// follow from them, also where they are wrong; once a state is beyond use, nothing flows.
+/// The record whose flows `choose` gives for each step and node. The exits, each next state and the
+/// cost follow from them, also where they are wrong; once a state is beyond use, nothing flows.
 pub fn record_of_flows(
     input: &Input,
     mut choose: impl FnMut(usize, usize, &NodeStep) -> (u64, u64),
-) -> Vec<u32> {
-    let mut record = vec![0; input.size.record()];
-    start(input, &mut record);
+) -> Record {
+    let mut record = Record::start(input);
     let mut usable = true;
     for k in 0..input.size.steps {
         for i in (0..input.size.nodes()).filter(|_| usable) {
-            let at = NodeStep::new::<Quick>(input, check::state(input, &record, k), k, i);
+            let at = NodeStep::new::<Quick>(input, record.state(k), k, i);
             let (flow, ramp_flow) = choose(k, i, &at);
-            let place = input.size.record_place(k, i);
-            record[place + 2] = flow as u32;
-            record[place + 3] = ramp_flow as u32;
+            let entry = record.entry_mut(k, i);
+            (entry.flow, entry.ramp_flow) = (flow, ramp_flow);
+            entry.exit = Some(Quick::exit(flow, at.split));
         }
         usable &= next_state(input, k, &mut record);
     }
-    write_cost(Quick::cost(input.size, &record), &mut record);
+    record.cost = Quick::cost(&record);
     record
 }
 
 /// Rule 6 in words that wrap around; whether the next state is one that rules can be used on.
-fn next_state(input: &Input, k: usize, record: &mut [u32]) -> bool {
+fn next_state(input: &Input, k: usize, record: &mut Record) -> bool {
     let mut usable = true;
     for i in 0..input.size.nodes() {
-        let state = check::state(input, record, k);
-        let [vehicles, queue, flow, ramp_flow] = entry(state, i);
-        let gained = vehicles + inflow::<Quick>(input, k, state, i);
-        let waiting = queue + input.arrivals(k, i);
-        let place = input.size.record_place(k + 1, i);
-        record[place] = gained.wrapping_sub(flow) as u32;
-        record[place + 1] = waiting.wrapping_sub(ramp_flow) as u32;
-        usable &= flow <= gained && ramp_flow <= waiting && record[place] <= input.node(i).jam;
+        let now = record.entry(k, i);
+        let gained = now.vehicles + inflow::<Quick>(input, k, record.state(k), i);
+        let waiting = now.queue + input.arrivals(k, i);
+        let next = record.entry_mut(k + 1, i);
+        next.vehicles = u64::from(gained.wrapping_sub(now.flow) as u32);
+        next.queue = u64::from(waiting.wrapping_sub(now.ramp_flow) as u32);
+        usable &= now.flow <= gained && now.ramp_flow <= waiting;
+        usable &= next.vehicles <= input.node(i).jam.into();
     }
     usable
 }
 
 /// A record that breaks no rule but, where queue limits are small, 12.
-pub fn free_record(random: &mut Random, input: &Input) -> Vec<u32> {
+pub fn free_record(random: &mut Random, input: &Input) -> Record {
     record_of_flows(input, |_, _, at| allowed_flows(random, at))
 }
 
@@ -92,7 +89,7 @@ fn any_allowed(random: &mut Random, at: &NodeStep) -> (u64, u64) {
 
 /// A record that breaks 8, 9 or 10 at one place, where just that can be broken, perhaps other rules
 /// at other nodes of the same step, and none before. All that follows is as rule 6 says.
-pub fn faulty_record(random: &mut Random, input: &Input) -> Vec<u32> {
+pub fn faulty_record(random: &mut Random, input: &Input) -> Record {
     let number = random.pick(&[8, 9, 10]);
     let from = (random.below(input.size.steps), random.below(input.size.nodes()));
     let more_faults = random.one_in(3);

@@ -10,12 +10,14 @@ use crate::model::{Input, Kind, Kinds, List, Size, MOST_QUEUE_LIMIT, WHOLE};
 /// All lists that the calls on words take, and the lengths of the lists lent to them.
 #[derive(Clone, Debug)]
 pub struct WordCase {
-    /// What corridor and demands were made as; the calls go by their lengths.
+    /// What corridor, demands and record were made as; the calls go by their lengths.
     pub kinds: Kinds,
     pub corridor: Vec<u32>,
     pub demands: Vec<u32>,
     pub plan: Vec<u32>,
     pub record: Vec<u32>,
+    /// What the lent record, which is another than the one given, was made as.
+    pub lent_kind: Kind,
     pub lent_record: usize,
     pub lent_plan: usize,
 }
@@ -26,7 +28,7 @@ impl WordCase {
         [
             (self.kinds.corridor, &self.corridor),
             (self.kinds.demands, &self.demands),
-            (Kind::Record, &self.record),
+            (self.kinds.record, &self.record),
             (Kind::Plan, &self.plan),
         ]
     }
@@ -82,14 +84,23 @@ fn usual_flow(random: &mut Random) -> u64 {
     random.pick(&[1, 4, 60, 1_000, 20_000, WHOLE])
 }
 
-/// A case with sound lists, its corridor and its demands of either kind.
-pub fn sound_case(random: &mut Random, size: Size, short_ramps: bool) -> WordCase {
-    let corridor = random.pick(List::Corridor.kinds());
-    let demands = random.pick(List::Demands.kinds());
-    sound_case_of(random, size, Kinds { corridor, demands }, short_ramps)
+/// Any kind of each list.
+pub fn some_kinds(random: &mut Random) -> Kinds {
+    let [corridor, demands, record] =
+        [List::Corridor, List::Demands, List::Record].map(|list| random.pick(list.kinds()));
+    Kinds { corridor, demands, record }
 }
 
-/// The same with those kinds: the record is the plan's, or one with flows chosen freely.
+/// A case with sound lists, each of any kind, the lent record of the given one's kind or the other.
+pub fn sound_case(random: &mut Random, size: Size, short_ramps: bool) -> WordCase {
+    let kinds = some_kinds(random);
+    let case = sound_case_of(random, size, kinds, short_ramps);
+    let lent_kind = random.pick(List::Record.kinds());
+    WordCase { lent_kind, lent_record: lent_kind.words(size), ..case }
+}
+
+/// The same with those kinds, the lent record's too: the record is the plan's, or one with flows
+/// chosen freely.
 pub fn sound_case_of(random: &mut Random, size: Size, kinds: Kinds, short_ramps: bool) -> WordCase {
     let style = style(random, short_ramps);
     let corridor = corridor_of(kinds.corridor, &nodes(random, size, style));
@@ -104,8 +115,9 @@ pub fn sound_case_of(random: &mut Random, size: Size, kinds: Kinds, short_ramps:
         true => record_of_plan(&input, &plan),
         false => free_record(random, &input),
     };
-    let (lent_record, lent_plan) = (size.record(), size.plan());
-    WordCase { kinds, corridor, demands, plan, record, lent_record, lent_plan }
+    let record = record.words(kinds.record);
+    let (lent_kind, lent_record, lent_plan) = (kinds.record, record.len(), size.plan());
+    WordCase { kinds, corridor, demands, plan, record, lent_kind, lent_record, lent_plan }
 }
 
 /// A capacity or arrivals: now and then nothing, one, the most, or the most of all.

@@ -4,8 +4,8 @@
 use super::{places, Tally};
 use crate::model::lists::link_fault;
 use crate::model::rules::flows;
-use crate::model::simulate::{entry, inflow};
-use crate::model::{check, Input, Node, NodeStep, Quick, Rules};
+use crate::model::simulate::inflow;
+use crate::model::{Input, Node, NodeStep, Quick, Record, Rules};
 
 /// What can happen at a link of a corridor of kind 10 in a step. A drop shows where the dropped
 /// capacity is below what the link would send without it.
@@ -45,7 +45,7 @@ fn without_drop(at: &NodeStep) -> NodeStep {
 /// Which of the happenings took place at link i in step k.
 pub(super) fn drop_happenings(
     input: &Input,
-    record: &[u32],
+    record: &Record,
     (k, i): (usize, usize),
     at: &NodeStep,
     (rate, limit): (u64, u64),
@@ -54,7 +54,7 @@ pub(super) fn drop_happenings(
     let without = without_drop(at);
     let shows = dropped_capacity < Quick::sending(&without, limit);
     let dropped = vehicles > drop_density;
-    let state = check::state(input, record, k);
+    let state = record.state(k);
     [
         shows && vehicles + 1 == drop_density,
         shows && vehicles == drop_density,
@@ -62,7 +62,7 @@ pub(super) fn drop_happenings(
         dropped && dropped_capacity == 0,
         dropped && dropped_capacity > 0 && dropped_capacity < capacity,
         dropped && dropped_capacity == capacity,
-        dropped && shows && entry(state, i)[2] < flows::<Quick>(&without, rate, limit).0,
+        dropped && shows && state[i].flow < flows::<Quick>(&without, rate, limit).0,
         dropped && inflow::<Quick>(input, k, state, i) > dropped_capacity,
         dropped_capacity > input.node(i).jam.into(),
         drop_density > capacity,
@@ -76,10 +76,10 @@ impl Tally {
 
     /// Counts the settings, in a plan that a converter gave for a record, of links that send less
     /// for a drop.
-    pub(super) fn where_dropped(&mut self, input: &Input, record: &[u32], plan: &[u32]) {
+    pub(super) fn where_dropped(&mut self, input: &Input, record: &Record, plan: &[u32]) {
         let links = places(input).filter(|&(_, i)| input.has_drop() && i > 0);
         let seen = links.map(|(k, i)| {
-            let at = NodeStep::new::<Quick>(input, check::state(input, record, k), k, i);
+            let at = NodeStep::new::<Quick>(input, record.state(k), k, i);
             let without = Quick::sending(&without_drop(&at), at.full_speed);
             let shows = Quick::sending(&at, at.full_speed) < without;
             let full = u64::from(plan[input.size.plan_place(k, i) + 1]) == at.full_speed;
@@ -89,15 +89,15 @@ impl Tally {
     }
 
     /// Counts an answer of the checker's that only corridors of kind 10 bring about.
-    pub(super) fn drop_refusals(&mut self, input: &Input, record: &[u32], answer: u32) {
+    pub(super) fn drop_refusals(&mut self, input: &Input, record: &Record, answer: u32) {
         let (k, i) = ((answer / 65_536) as usize, (answer / 256 % 256) as usize);
         match answer % 256 {
             2 => self.add_seen(DROP_REFUSALS, [link_refusal(&input.node(i), i)]),
             8 => {
-                let state = check::state(input, record, k);
+                let state = record.state(k);
                 let at = NodeStep::new::<Quick>(input, state, k, i);
                 let without = Quick::sending(&without_drop(&at), at.full_speed);
-                self.add(DROP_REFUSALS[6], 0, (entry(state, i)[2] <= without).into());
+                self.add(DROP_REFUSALS[6], 0, (state[i].flow <= without).into());
             }
             _ => {}
         }

@@ -2,7 +2,7 @@
 //! for what may leave it.
 
 use super::Tally;
-use crate::model::{check, Input, NodeStep, Quick, Rules, WHOLE};
+use crate::model::{Input, NodeStep, Quick, Record, Rules, WHOLE};
 
 /// What can happen at the end of link N with demands of kind 5.
 pub const AT_LINK_N: [&str; 4] = [
@@ -31,11 +31,11 @@ impl Tally {
     }
 
     /// Counts what happened at the end of link N in an accepted simulation.
-    pub(super) fn at_link_n(&mut self, input: &Input, plan: &[u32], record: &[u32]) {
+    pub(super) fn at_link_n(&mut self, input: &Input, plan: &[u32], record: &Record) {
         let end = input.size.links;
         let steps = (0..input.size.steps).filter(|_| input.has_downstream());
         let seen = steps.map(|k| {
-            let at = NodeStep::new::<Quick>(input, check::state(input, record, k), k, end);
+            let at = NodeStep::new::<Quick>(input, record.state(k), k, end);
             let limit = plan[input.size.plan_place(k, end) + 1];
             let (sending, word) = (Quick::sending(&at, limit.into()), at.supply);
             let stopped = sending > 0 && word == 0;
@@ -46,10 +46,10 @@ impl Tally {
 
     /// Counts the settings of node N in a plan that a converter gave for a record, where less may
     /// leave link N than it can send.
-    pub(super) fn where_less_may_leave(&mut self, input: &Input, record: &[u32], plan: &[u32]) {
+    pub(super) fn where_less_may_leave(&mut self, input: &Input, record: &Record, plan: &[u32]) {
         let end = input.size.links;
         let seen = (0..input.size.steps).map(|k| {
-            let at = NodeStep::new::<Quick>(input, check::state(input, record, k), k, end);
+            let at = NodeStep::new::<Quick>(input, record.state(k), k, end);
             let less = at.supply < Quick::sending(&at, at.full_speed);
             let full = u64::from(plan[input.size.plan_place(k, end) + 1]) == at.full_speed;
             [less && full, less && !full]

@@ -6,7 +6,8 @@ use tests::calls::{Instead, WordCalls};
 use tests::model::check::check_record;
 use tests::model::lists::{corridor_of, drop_fault, test_input, Node};
 use tests::model::{
-    refuse_if, Input, Kind, List, NodeStep, Outcome, Quick, Refusal, Setting, Size, WHOLE,
+    refuse_if, Entry, Input, Kind, List, NodeStep, Outcome, Quick, Record, Refusal, Setting, Size,
+    WHOLE,
 };
 
 wrong! { variants: WordCalls;
@@ -60,9 +61,9 @@ wrong! { variants: WordCalls;
 
     /// Above its density a link takes in no more than it discharges.
     DropInReceivingToo {
-        fn receiving(input: &Input, state: &[u32], link: usize) -> u64 {
+        fn receiving(input: &Input, state: &[Entry], link: usize) -> u64 {
             let node = input.node(link);
-            let dropped = state[4 * link] > node.drop_density;
+            let dropped = state[link].vehicles > node.drop_density.into();
             let most = if dropped { node.dropped_capacity } else { node.capacity };
             Quick::receiving(input, state, link).min(most.into())
         }
@@ -82,7 +83,7 @@ wrong! { variants: WordCalls;
             at.capacity
         }
 
-        fn check_record(input: &Input, record: &[u32]) -> Outcome {
+        fn check_record(input: &Input, record: &Record) -> Outcome {
             Quick::check_record(input, record)
         }
 
@@ -92,7 +93,7 @@ wrong! { variants: WordCalls;
     }
 
     DropPassedOverByChecker {
-        fn check_record(input: &Input, record: &[u32]) -> Outcome {
+        fn check_record(input: &Input, record: &Record) -> Outcome {
             check_record::<DropPassedOver>(input, record)
         }
     }

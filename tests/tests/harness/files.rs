@@ -4,8 +4,8 @@
 use super::{file_but_of, length_but_of, wrong};
 use tests::calls::FileCalls;
 use tests::model::files::{block_fault, read_list, words_of, BLOCK_BYTES};
-use tests::model::{answer, refusal, refuse_if, Kind, List, Quick, Refusal, Rules, Size};
-use tests::random::files::name_kind;
+use tests::model::{answer, refusal, refuse_if, Kind, List, Quick, Record, Refusal, Rules, Size};
+use tests::random::files::{file_of, name_kind};
 
 /// The words of a file of the right length, without any test of it.
 fn untested(kind: Kind, size: Size, file: &[u8]) -> Vec<u32> {
@@ -128,6 +128,13 @@ wrong! { variants: FileCalls;
         }
     }
 
+    /// Word 0 of 7 is any other value, as before there was such a kind.
+    SevenReadAsThree {
+        fn kind_of_file(list: List, file: &[u8]) -> Kind {
+            file_but_of(Kind::OffRamps, list, file)
+        }
+    }
+
     OtherDemandsReadAsFive {
         fn kind_of_file(list: List, file: &[u8]) -> Kind {
             others_read_as_newest(List::Demands, list, file)
@@ -137,6 +144,12 @@ wrong! { variants: FileCalls;
     OtherCorridorsReadAsTen {
         fn kind_of_file(list: List, file: &[u8]) -> Kind {
             others_read_as_newest(List::Corridor, list, file)
+        }
+    }
+
+    OtherRecordsReadAsSeven {
+        fn kind_of_file(list: List, file: &[u8]) -> Kind {
+            others_read_as_newest(List::Record, list, file)
         }
     }
 
@@ -152,6 +165,12 @@ wrong! { variants: FileCalls;
         }
     }
 
+    RecordKindOfWholeBlocksOnly {
+        fn kind_of_file(list: List, file: &[u8]) -> Kind {
+            kind_of_whole_blocks(List::Record, list, file)
+        }
+    }
+
     DemandsKindInOneByte {
         fn kind_of_file(list: List, file: &[u8]) -> Kind {
             kind_in_one_byte(List::Demands, list, file)
@@ -161,6 +180,12 @@ wrong! { variants: FileCalls;
     CorridorKindInOneByte {
         fn kind_of_file(list: List, file: &[u8]) -> Kind {
             kind_in_one_byte(List::Corridor, list, file)
+        }
+    }
+
+    RecordKindInOneByte {
+        fn kind_of_file(list: List, file: &[u8]) -> Kind {
+            kind_in_one_byte(List::Record, list, file)
         }
     }
 
@@ -175,6 +200,32 @@ wrong! { variants: FileCalls;
     OneTakenInTen {
         fn read_list(kind: Kind, size: Size, file: &[u8]) -> Result<Vec<u32>, Refusal> {
             oldest_taken_in(Kind::CapacityDrop, kind, size, file)
+        }
+    }
+
+    /// Blocks of kind 3 are let pass in a file of kind 7.
+    ThreeTakenInSeven {
+        fn read_list(kind: Kind, size: Size, file: &[u8]) -> Result<Vec<u32>, Refusal> {
+            oldest_taken_in(Kind::OffRamps, kind, size, file)
+        }
+    }
+
+    /// The exits are passed over in a file of kind 7 and read as zeros.
+    ExitsReadAsZeros {
+        fn read_list(kind: Kind, size: Size, file: &[u8]) -> Result<Vec<u32>, Refusal> {
+            let mut words = Quick::read_list(kind, size, file)?;
+            if kind == Kind::OffRamps {
+                let states = &mut words[..kind.cost_place(size)];
+                states.chunks_exact_mut(5).for_each(|entry| entry[4] = 0);
+            }
+            Ok(words)
+        }
+    }
+
+    /// A list of kind 7's length cannot be written.
+    SevenNotWritten {
+        fn kind_of_length(list: List, size: Size, words: usize) -> Result<Kind, Refusal> {
+            length_but_of(Kind::OffRamps, list, size, words)
         }
     }
 
@@ -243,6 +294,12 @@ enum Wrong {
     LentLengthChooses(List),
     OtherKindsLengthLent(List),
     WrittenAsOldest(List),
+    WrittenAsNewest(List),
+    FilesLengthChooses,
+    SevenRefusedByChecker,
+    SevenRefusedByConverter,
+    SevenCheckedWithoutExits,
+    SevenConvertedWithoutExits,
 }
 
 use Wrong::*;
@@ -277,6 +334,41 @@ impl Wrong {
     }
 }
 
+/// Files of corridor, demands and record, a sound record of kind 7 as one of kind 3.
+fn without_exits(n: u32, k: u32, files: [&[u8]; 3]) -> [Vec<u8>; 3] {
+    let mut files = files.map(<[u8]>::to_vec);
+    let kind = List::Record.kind_of_file(&files[2]);
+    let read = Size::new(n, k).and_then(|size| {
+        let words = Quick::read_list(kind, size, &files[2])?;
+        Record::new(size, &words)
+    });
+    if let Ok(record) = read {
+        files[2] = file_of(Kind::Record, &record.words(Kind::Record));
+    }
+    files
+}
+
+/// What the reader of the record refuses if its kind is that which has the file's length, where that
+/// tells the kinds apart; nothing if the corridor or the demands are refused.
+fn read_by_files_length(size: Size, files: [&[u8]; 3]) -> Result<(), Refusal> {
+    let sound = |list: List| {
+        let file = files[list as usize];
+        Quick::read_list(list.kind_of_file(file), size, file).is_ok()
+    };
+    let as_long = |kind: &&Kind| kind.bytes(size) == files[2].len();
+    let kinds: Vec<&Kind> = List::Record.kinds().iter().filter(as_long).collect();
+    match kinds[..] {
+        [&kind] if sound(List::Corridor) && sound(List::Demands) => {
+            Quick::read_list(kind, size, files[2]).map(|_| ())
+        }
+        _ => Ok(()),
+    }
+}
+
+fn is_seven(files: [&[u8]; 3]) -> bool {
+    List::Record.kind_of_file(files[2]) == Kind::OffRamps
+}
+
 impl FileCalls for Wrong {
     fn read(&self, list: List, n: u32, k: u32, file: &[u8], words: &mut [u32]) -> u32 {
         let (n, k) = self.counts(list, n, k);
@@ -306,6 +398,9 @@ impl FileCalls for Wrong {
             (WrittenAsOldest(wrong), 0) if *wrong == list => {
                 name_kind(file, list.kinds()[0] as u32, true)
             }
+            (WrittenAsNewest(wrong), 0) if *wrong == list => {
+                name_kind(file, list.kinds()[1] as u32, true)
+            }
             _ => {}
         }
         answer
@@ -321,8 +416,18 @@ impl FileCalls for Wrong {
             lists.iter().zip(files).any(|(list, file)| file.len() != bytes(list, file));
         match self {
             LengthsOfAllFilesFirst if other_length => 14,
+            FilesLengthChooses => match answer(read_by_files_length(size, files)) {
+                0 => Quick.check_files(n, k, files),
+                refused => refused,
+            },
+            SevenRefusedByChecker if is_seven(files) => Quick.check_files(n, k, files).max(1),
+            SevenCheckedWithoutExits => {
+                let [corridor, demands, record] = without_exits(n, k, files);
+                Quick.check_files(n, k, [&corridor, &demands, &record])
+            }
             RecordReadFirst => {
-                let mut record = vec![0; size.record()];
+                let kind = List::Record.kind_of_file(files[2]);
+                let mut record = vec![0; kind.words(size)];
                 let answer = Quick.read(List::Record, n, k, files[2], &mut record);
                 if answer == 0 {
                     Quick.check_files(n, k, files)
@@ -335,6 +440,16 @@ impl FileCalls for Wrong {
     }
 
     fn convert_files(&self, n: u32, k: u32, files: [&[u8]; 3], plan_file: &mut [u8]) -> u32 {
+        match self {
+            SevenRefusedByConverter if is_seven(files) => {
+                return Quick.check_files(n, k, files).max(1);
+            }
+            SevenConvertedWithoutExits => {
+                let [corridor, demands, record] = without_exits(n, k, files);
+                return Quick.convert_files(n, k, [&corridor, &demands, &record], plan_file);
+            }
+            _ => {}
+        }
         let answer = Quick.convert_files(n, k, files, plan_file);
         match self {
             PlanFileWrittenOnRefusal if answer != 0 => plan_file.fill(0),
@@ -357,9 +472,18 @@ pub fn call_variants() -> Vec<(&'static str, &'static dyn FileCalls)> {
         ("PlanFileLengthLast", &PlanFileLengthLast),
         ("LentLengthChooses for corridors", &LentLengthChooses(List::Corridor)),
         ("LentLengthChooses for demands", &LentLengthChooses(List::Demands)),
+        ("LentLengthChooses for records", &LentLengthChooses(List::Record)),
         ("OtherKindsLengthLent for corridors", &OtherKindsLengthLent(List::Corridor)),
         ("OtherKindsLengthLent for demands", &OtherKindsLengthLent(List::Demands)),
+        ("OtherKindsLengthLent for records", &OtherKindsLengthLent(List::Record)),
         ("WrittenAsOldest for corridors", &WrittenAsOldest(List::Corridor)),
         ("WrittenAsOldest for demands", &WrittenAsOldest(List::Demands)),
+        ("WrittenAsOldest for records", &WrittenAsOldest(List::Record)),
+        ("WrittenAsNewest for records", &WrittenAsNewest(List::Record)),
+        ("FilesLengthChooses", &FilesLengthChooses),
+        ("SevenRefusedByChecker", &SevenRefusedByChecker),
+        ("SevenRefusedByConverter", &SevenRefusedByConverter),
+        ("SevenCheckedWithoutExits", &SevenCheckedWithoutExits),
+        ("SevenConvertedWithoutExits", &SevenConvertedWithoutExits),
     ]
 }

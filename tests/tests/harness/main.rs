@@ -4,6 +4,7 @@
 mod capacity_drop;
 mod files;
 mod limits;
+mod off_ramps;
 mod outputs;
 mod program;
 mod properties;
@@ -94,6 +95,13 @@ fn wrong_tests_of_lists_and_records_are_found() {
 fn wrong_drops_are_found() {
     let misread = capacity_drop::misread_variants();
     for (name, variant) in capacity_drop::variants().into_iter().chain(misread) {
+        assert_found(name, words_outcome(variant));
+    }
+}
+
+#[test]
+fn wrong_exits_are_found() {
+    for (name, variant) in off_ramps::variants().into_iter().chain(off_ramps::call_variants()) {
         assert_found(name, words_outcome(variant));
     }
 }

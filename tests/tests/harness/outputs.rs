@@ -2,7 +2,7 @@
 //! the same for every input.
 
 use tests::calls::WordCalls;
-use tests::model::{Input, Quick};
+use tests::model::{Input, List, Quick};
 
 /// What an outputs variant does wrong; everything else is the model's.
 #[derive(Clone, Copy)]
@@ -48,16 +48,20 @@ impl Wrong {
 impl WordCalls for Wrong {
     fn simulate(&self, corridor: &[u32], demands: &[u32], plan: &[u32], record: &mut [u32]) -> u32 {
         let lent = record.to_vec();
-        let wanted =
-            Input::new(corridor, demands).map_or(record.len(), |input| input.size.record());
+        let size = Input::new(corridor, demands).map(|input| input.size);
+        let wanted = size.map_or(record.len(), |size| {
+            let lengths = List::Record.kinds().iter().map(|kind| kind.words(size));
+            lengths.filter(|&words| words <= record.len()).max().unwrap_or(record.len())
+        });
         let taken = match self {
-            LongOutputTaken => wanted.min(record.len()),
+            LongOutputTaken => wanted,
             _ => record.len(),
         };
         let answer = Quick.simulate(corridor, demands, plan, &mut record[..taken]);
-        if let (FirstStepCopiedOn, 0, Ok(input)) = (self, answer, Input::new(corridor, demands)) {
-            let state = input.size.record_place(1, 0);
-            (1..input.size.steps).for_each(|k| record.copy_within(..state, k * state));
+        if let (FirstStepCopiedOn, 0, Ok(size)) = (self, answer, size) {
+            let kind = List::Record.kind_of_length(size, record.len()).expect("accepted");
+            let state = kind.entry_place(size, 1, 0);
+            (1..size.steps).for_each(|k| record.copy_within(..state, k * state));
         }
         self.spoil(answer, &lent, record);
         self.answer(answer)

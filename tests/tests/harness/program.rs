@@ -2,8 +2,9 @@
 
 use super::{file_but_of, length_but_of, wrong};
 use tests::calls::Program;
-use tests::model::program::program_size;
-use tests::model::{refusal, refuse_if, Kind, List, Quick, Refusal, Size};
+use tests::model::check::Proposal;
+use tests::model::program::{program_size, three_files};
+use tests::model::{refusal, refuse_if, Kind, List, Quick, Refusal, Rules, Size};
 
 wrong! { variants: Program;
     /// Whole blocks are asked for before N is looked at.
@@ -62,6 +63,37 @@ wrong! { variants: Program;
         }
     }
 
+    /// The record's blocks are those of kind 3, whatever it says it is.
+    SevenReadAsThree {
+        fn kind_of_file(list: List, file: &[u8]) -> Kind {
+            file_but_of(Kind::OffRamps, list, file)
+        }
+    }
+
+    /// A record of kind 7 is refused.
+    SevenRefused {
+        fn kind_of_length(list: List, size: Size, words: usize) -> Result<Kind, Refusal> {
+            length_but_of(Kind::OffRamps, list, size, words)
+        }
+    }
+
+    /// Any word 0 but 3 makes a record one of kind 7.
+    OtherRecordsReadAsSeven {
+        fn kind_of_file(list: List, file: &[u8]) -> Kind {
+            let three = file.starts_with(&(Kind::Record as u32).to_le_bytes());
+            match list == List::Record && !three {
+                true => Kind::OffRamps,
+                false => list.kind_of_file(file),
+            }
+        }
+    }
+
+    ExitsUntested {
+        fn exit_fault(_: &Proposal) -> bool {
+            false
+        }
+    }
+
     /// K alone is looked for behind a corridor of kind 1.
     StepsBehindKindOne {
         fn program_size(bytes: &[u8]) -> Result<Size, Refusal> {
@@ -81,6 +113,7 @@ enum Wrong {
     HeldCalledFull,
     RefusalWithoutPlace,
     LongerInputCut,
+    CostByWidthFour,
 }
 
 use Wrong::*;
@@ -96,6 +129,11 @@ impl Program for Wrong {
             NoLastLineFeed => text.truncate(text.len() - 1),
             OneByteLessTaken if input.len() == 65_536 => text = "REFUSED 14 0 0\n".to_string(),
             HeldCalledFull => text = text.replace(" H\n", " F\n"),
+            CostByWidthFour if text.starts_with('P') => {
+                let (steps, nodes, cost) = first_line_by_width_four(input);
+                let lines = text.split_once('\n').expect("the first line ends").1;
+                text = format!("PLAN {steps} {nodes} {cost}\n{lines}");
+            }
             RefusalWithoutPlace if text.starts_with('R') => {
                 let number = text.split(' ').nth(1).expect("a refusal has a number");
                 text = format!("REFUSED {number} 0 0\n");
@@ -106,6 +144,15 @@ impl Program for Wrong {
     }
 }
 
+/// Steps, nodes and, of a record of either kind, the words behind four for each node.
+fn first_line_by_width_four(input: &[u8]) -> (usize, usize, u64) {
+    let (size, [_, _, file]) = three_files::<Quick>(input).expect("an accepted input");
+    let words = Quick::read_list(List::Record.kind_of_file(file), size, file).expect("accepted");
+    let place = Kind::Record.cost_place(size);
+    let cost = u64::from(words[place]) + (u64::from(words[place + 1]) << 32);
+    (size.steps, size.nodes(), cost)
+}
+
 pub fn text_variants() -> Vec<(&'static str, &'static dyn Program)> {
     vec![
         ("NoLastLineFeed", &NoLastLineFeed),
@@ -113,5 +160,6 @@ pub fn text_variants() -> Vec<(&'static str, &'static dyn Program)> {
         ("HeldCalledFull", &HeldCalledFull),
         ("RefusalWithoutPlace", &RefusalWithoutPlace),
         ("LongerInputCut", &LongerInputCut),
+        ("CostByWidthFour", &CostByWidthFour),
     ]
 }

@@ -1,6 +1,6 @@
 //! Shows that demand 3 and the properties bite: each fails for wrong variants that contradict it.
 
-use super::{capacity_drop, files, outputs, program, records, steps, wrong};
+use super::{capacity_drop, files, off_ramps, outputs, program, records, steps, wrong};
 use std::any::Any;
 use std::panic::{catch_unwind, AssertUnwindSafe};
 use tests::calls::{FileCalls, Program, WordCalls};
@@ -9,6 +9,7 @@ use tests::completed::*;
 use tests::demand_three::assert_demand_three;
 use tests::downstream::*;
 use tests::model::{List, NodeStep, Quick};
+use tests::off_ramps::*;
 use tests::properties::*;
 
 wrong! { rate_variants: WordCalls;
@@ -23,7 +24,7 @@ wrong! { rate_variants: WordCalls;
 /// What a property is asked of, and the names of variants for which it fails.
 type Broken<C> = (fn(&C), &'static [&'static str]);
 
-const OF_WORDS: [Broken<dyn WordCalls>; 14] = [
+const OF_WORDS: [Broken<dyn WordCalls>; 18] = [
     (
         |calls| assert_vehicles_are_conserved(calls),
         &["ThroughRoundedDown", "EverythingThrough", "AnyFlowLeaves"],
@@ -64,6 +65,72 @@ const OF_WORDS: [Broken<dyn WordCalls>; 14] = [
         ],
     ),
     (
+        |calls| assert_completed_lists_are_the_same(calls, List::Record),
+        &[
+            "SevenRefused",
+            "SevenAskedFor",
+            "ExitRoundedUpByChecker",
+            "LastStepExitsFixed",
+            "CostReadByWidthFour",
+            "CostLeftAsLent by the simulator",
+            "CostLeftAsLent in the work record",
+            "FormOfSevenUnchanged",
+            "WorkOfSevenRefused",
+            "WorkOfSevenLeftAloneOnTwelve",
+        ],
+    ),
+    (
+        |calls| assert_exits_are_what_does_not_go_through(calls),
+        &[
+            "ExitRoundedUp",
+            "ExitIsThroughPart",
+            "ExitIn32Bits",
+            "ExitOfRampFlow",
+            "ExitOfSending",
+            "ExitBySplitOfNextNode",
+            "ExitBySplitOfNextStep",
+            "ExitBySplitOfStepBefore",
+            "ExitsCopiedFromStepBefore",
+            "ExitsKept by the simulator",
+            "FlowOutOfLinkNListed by the simulator",
+            "ExitsLeftAsLent by the simulator",
+            "ThroughRoundedDown",
+        ],
+    ),
+    (
+        |calls| assert_record_accounts_for_all_vehicles(calls),
+        &[
+            "ExitRoundedUp",
+            "ExitOfSending",
+            "ExitsAllZero",
+            "FlowOutOfLinkNListed by the simulator",
+            "ThroughRoundedDown",
+        ],
+    ),
+    (
+        |calls| assert_every_exit_is_tested(calls),
+        &[
+            "ExitUntested",
+            "ExitTestedWhereSplitOnly",
+            "ExitTestedWhereFlowOnly",
+            "ExitTestedWhereNotZeroOnly",
+            "LesserExitTaken",
+            "GreaterExitTaken",
+            "OneMoreWithARestTaken",
+            "ExitIn16Bits",
+            "ExitNamedAtNextNode",
+            "ExitsOfLastStepUntested",
+            "ExitsBeforeTheEndUntested",
+            "EntryExitFree",
+            "EndExitFree",
+            "LastStateExitsFree",
+            "LastStateExitsOfInnerNodesOnly",
+            "FixedExitsAfterSteps",
+            "CheckerPassesExitsOver",
+            "ConverterPassesExitsOver",
+        ],
+    ),
+    (
         |calls| assert_drop_sets_what_a_link_sends(calls),
         &["DropAtItsDensity", "DropPassedOver", "DropInReceivingToo", "OfNextNode", "Exchanged"],
     ),
@@ -97,11 +164,19 @@ const OF_WORDS: [Broken<dyn WordCalls>; 14] = [
             "DropPassedOverByChecker",
             "DropPassedOverByConverter",
             "DroppedFlowHeld",
+            "ExitUntested",
+            "ExitRoundedUpBySimulator",
+            "ExitRoundedUpByChecker",
+            "LastStateExitsFree",
+            "CheckerPassesExitsOver",
+            "ConverterPassesExitsOver",
+            "ExitsLeftAsLent in the work record",
+            "FormOfSevenUnchanged",
         ],
     ),
 ];
 
-const OF_FILES: [Broken<dyn FileCalls>; 5] = [
+const OF_FILES: [Broken<dyn FileCalls>; 6] = [
     (|calls| assert_files_come_back(calls), &["PaddingUntested", "BytesLeftOver"]),
     (|calls| assert_check_word_sees_any_one_change(calls), &["LastWordNotSummed", "OtherWeights"]),
     (
@@ -112,10 +187,14 @@ const OF_FILES: [Broken<dyn FileCalls>; 5] = [
         |calls| assert_completed_files_are_the_same(calls, List::Corridor),
         &["TenReadAsOne", "TenNotWritten"],
     ),
+    (
+        |calls| assert_completed_files_are_the_same(calls, List::Record),
+        &["SevenReadAsThree", "SevenNotWritten", "ExitsReadAsZeros"],
+    ),
     (|calls| assert_links_come_before_the_kind_in_files(calls), &["TenNotWritten"]),
 ];
 
-const OF_PROGRAM: [Broken<dyn Program>; 2] = [
+const OF_PROGRAM: [Broken<dyn Program>; 3] = [
     (
         |program| assert_completed_inputs_are_the_same(program, List::Demands),
         &["FiveReadAsTwo", "FiveRefused"],
@@ -123,6 +202,10 @@ const OF_PROGRAM: [Broken<dyn Program>; 2] = [
     (
         |program| assert_completed_inputs_are_the_same(program, List::Corridor),
         &["TenReadAsOne", "TenRefused", "StepsBehindKindOne"],
+    ),
+    (
+        |program| assert_completed_inputs_are_the_same(program, List::Record),
+        &["SevenReadAsThree", "SevenRefused"],
     ),
 ];
 
@@ -151,6 +234,8 @@ pub fn assert_properties_broken() {
         records::variants(),
         capacity_drop::variants(),
         capacity_drop::misread_variants(),
+        off_ramps::variants(),
+        off_ramps::call_variants(),
         outputs::variants(),
         rate_variants(),
     ];

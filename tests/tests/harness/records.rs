@@ -5,7 +5,8 @@ use tests::calls::WordCalls;
 use tests::model::check::{check_cost, check_fixed, check_record, check_steps};
 use tests::model::check::{step_fault, Proposal};
 use tests::model::lists::{demand_fault, plan_fault, test_input};
-use tests::model::{refusal, refuse_if, Input, Kind, List, Outcome, Quick, Refusal, Size, WHOLE};
+use tests::model::{refusal, refuse_if, Entry, Input, Kind, List, Outcome, Quick, Record};
+use tests::model::{Refusal, Size, WHOLE};
 
 wrong! { variants: WordCalls;
     ThreeBeforeTwo {
@@ -107,7 +108,7 @@ wrong! { variants: WordCalls;
             demand_fault(input, k, i) && !by_word_alone(input, k, i)
         }
 
-        fn supply(input: &Input, state: &[u32], k: usize, i: usize) -> u64 {
+        fn supply(input: &Input, state: &[Entry], k: usize, i: usize) -> u64 {
             match i == input.size.links {
                 true => WHOLE,
                 false => Quick::supply(input, state, k, i),
@@ -200,15 +201,15 @@ wrong! { variants: WordCalls;
             step_fault::<Quick>(number, here) && (number != 9 || here.at.full_speed > 0)
         }
 
-        fn receiving(input: &Input, state: &[u32], link: usize) -> u64 {
-            let jammed = state[4 * link] >= input.node(link).jam;
+        fn receiving(input: &Input, state: &[Entry], link: usize) -> u64 {
+            let jammed = state[link].vehicles >= input.node(link).jam.into();
             if jammed { 0 } else { Quick::receiving(input, state, link) }
         }
     }
 
     /// Refusal 9 left out at node N, as where traffic past link N is free.
     EndRoomUntested {
-        fn check_record(input: &Input, record: &[u32]) -> Outcome {
+        fn check_record(input: &Input, record: &Record) -> Outcome {
             check_record::<DownstreamPassedOver>(input, record)
         }
     }
@@ -232,7 +233,7 @@ wrong! { variants: WordCalls;
 
     /// State 0 is compared after all fixed zeros.
     StartComparedLast {
-        fn check_record(input: &Input, record: &[u32]) -> Outcome {
+        fn check_record(input: &Input, record: &Record) -> Outcome {
             for k in 1..=input.size.steps {
                 for i in 0..input.size.nodes() {
                     refuse_if(Quick::fixed_fault(input, record, k, i), 7, k, i)?;
@@ -244,52 +245,51 @@ wrong! { variants: WordCalls;
 
     /// A wrong cost is refused before the steps are looked at. The sum is taken of any words.
     CostFirst {
-        fn check_record(input: &Input, record: &[u32]) -> Outcome {
+        fn check_record(input: &Input, record: &Record) -> Outcome {
             check_fixed::<Quick>(input, record)?;
-            check_cost::<Quick>(input, record)?;
+            check_cost::<Quick>(record)?;
             check_steps::<Quick>(input, record)
         }
     }
 
     CostHighWordUntested {
-        fn check_record(input: &Input, record: &[u32]) -> Outcome {
+        fn check_record(input: &Input, record: &Record) -> Outcome {
             check_fixed::<Quick>(input, record)?;
             check_steps::<Quick>(input, record)?;
-            let cost = Quick::cost(input.size, record) as u32;
-            refuse_if(record[record.len() - 2] != cost, 13, 0, 0)
+            refuse_if(record.cost as u32 != Quick::cost(record) as u32, 13, 0, 0)
         }
     }
 
     /// Long queues are refused in a last pass of their own.
     TwelveInALastPass {
-        fn check_record(input: &Input, record: &[u32]) -> Outcome {
+        fn check_record(input: &Input, record: &Record) -> Outcome {
             check_fixed::<Quick>(input, record)?;
             check_in_order(input, record, &[8, 9, 10, 11])?;
             check_in_order(input, record, &[12])?;
-            check_cost::<Quick>(input, record)
+            check_cost::<Quick>(record)
         }
     }
 
     /// The flows of all nodes of a step before the next state of any.
     FlowsOfAllNodesFirst {
-        fn check_record(input: &Input, record: &[u32]) -> Outcome {
+        fn check_record(input: &Input, record: &Record) -> Outcome {
             check_fixed::<Quick>(input, record)?;
             for k in 0..input.size.steps {
                 check_step(input, record, k, &[8, 9, 10])?;
                 check_step(input, record, k, &[11, 12])?;
             }
-            check_cost::<Quick>(input, record)
+            check_cost::<Quick>(record)
         }
     }
 
     /// The step into the last state is not looked at.
     LastStepUntested {
-        fn check_record(input: &Input, record: &[u32]) -> Outcome {
+        fn check_record(input: &Input, record: &Record) -> Outcome {
             check_fixed::<Quick>(input, record)?;
             for k in 0..input.size.steps - 1 {
                 check_step(input, record, k, &[8, 9, 10, 11, 12])?;
             }
-            check_cost::<Quick>(input, record)
+            check_cost::<Quick>(record)
         }
     }
 }
@@ -299,11 +299,11 @@ fn by_word_alone(input: &Input, k: usize, i: usize) -> bool {
     i == input.size.links && (input.arrivals(k, i), input.split(k, i)) == (0, 0)
 }
 
-fn check_in_order(input: &Input, record: &[u32], numbers: &[u32]) -> Outcome {
+fn check_in_order(input: &Input, record: &Record, numbers: &[u32]) -> Outcome {
     (0..input.size.steps).try_for_each(|k| check_step(input, record, k, numbers))
 }
 
-fn check_step(input: &Input, record: &[u32], k: usize, numbers: &[u32]) -> Outcome {
+fn check_step(input: &Input, record: &Record, k: usize, numbers: &[u32]) -> Outcome {
     for i in 0..input.size.nodes() {
         let here = Proposal::new::<Quick>(input, record, k, i);
         for &number in numbers {

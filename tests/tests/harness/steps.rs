@@ -3,7 +3,7 @@
 use super::wrong;
 use tests::calls::WordCalls;
 use tests::model::rules::flows;
-use tests::model::{Input, NodeStep, Quick, Setting, Size, WHOLE};
+use tests::model::{Entry, Input, NodeStep, Quick, Record, Setting, WHOLE};
 
 /// A product that keeps its low 32 bits only.
 fn short_product(a: u64, b: u64) -> u64 {
@@ -63,14 +63,14 @@ wrong! { variants: WordCalls;
 
     /// Traffic past link N is free.
     AnyFlowLeaves {
-        fn supply(input: &Input, state: &[u32], k: usize, i: usize) -> u64 {
+        fn supply(input: &Input, state: &[Entry], k: usize, i: usize) -> u64 {
             let supply = Quick::supply(input, state, k, i);
             if i == input.size.links { WHOLE } else { supply }
         }
     }
 
     FirstWordForEveryStep {
-        fn supply(input: &Input, state: &[u32], k: usize, i: usize) -> u64 {
+        fn supply(input: &Input, state: &[Entry], k: usize, i: usize) -> u64 {
             let supply = Quick::supply(input, state, k, i);
             if i == input.size.links { input.downstream(0) } else { supply }
         }
@@ -78,7 +78,7 @@ wrong! { variants: WordCalls;
 
     /// The word of the step after; the last has its own.
     WordOfNextStep {
-        fn supply(input: &Input, state: &[u32], k: usize, i: usize) -> u64 {
+        fn supply(input: &Input, state: &[Entry], k: usize, i: usize) -> u64 {
             let supply = Quick::supply(input, state, k, i);
             let next = (k + 1).min(input.size.steps - 1);
             if i == input.size.links { input.downstream(next) } else { supply }
@@ -87,13 +87,13 @@ wrong! { variants: WordCalls;
 
     /// The word is taken for what may leave the link before as well.
     WordAtEveryNode {
-        fn supply(input: &Input, state: &[u32], k: usize, i: usize) -> u64 {
+        fn supply(input: &Input, state: &[Entry], k: usize, i: usize) -> u64 {
             Quick::supply(input, state, k, i).min(input.downstream(k))
         }
     }
 
     OneLessLeaves {
-        fn supply(input: &Input, state: &[u32], k: usize, i: usize) -> u64 {
+        fn supply(input: &Input, state: &[Entry], k: usize, i: usize) -> u64 {
             let supply = Quick::supply(input, state, k, i);
             let word = i == input.size.links && input.has_downstream();
             if word { supply.saturating_sub(1) } else { supply }
@@ -101,7 +101,7 @@ wrong! { variants: WordCalls;
     }
 
     KindTwoCountsAsOneLess {
-        fn supply(input: &Input, state: &[u32], k: usize, i: usize) -> u64 {
+        fn supply(input: &Input, state: &[Entry], k: usize, i: usize) -> u64 {
             let supply = Quick::supply(input, state, k, i);
             let none = i == input.size.links && !input.has_downstream();
             if none { WHOLE - 1 } else { supply }
@@ -117,9 +117,9 @@ wrong! { variants: WordCalls;
 
     /// The next link's capacity does not bound what it receives.
     ReceivingBeyondCapacity {
-        fn receiving(input: &Input, state: &[u32], link: usize) -> u64 {
+        fn receiving(input: &Input, state: &[Entry], link: usize) -> u64 {
             let node = input.node(link);
-            u64::from(node.wave_speed) * u64::from(node.jam - state[4 * link]) / WHOLE
+            u64::from(node.wave_speed) * (u64::from(node.jam) - state[link].vehicles) / WHOLE
         }
     }
 
@@ -136,9 +136,9 @@ wrong! { variants: WordCalls;
     }
 
     ReceivingIn32Bits {
-        fn receiving(input: &Input, state: &[u32], link: usize) -> u64 {
+        fn receiving(input: &Input, state: &[Entry], link: usize) -> u64 {
             let node = input.node(link);
-            let room = u64::from(node.jam - state[4 * link]);
+            let room = u64::from(node.jam) - state[link].vehicles;
             (short_product(node.wave_speed.into(), room) / WHOLE).min(node.capacity.into())
         }
     }
@@ -155,22 +155,22 @@ wrong! { variants: WordCalls;
     }
 
     CostWithStateZero {
-        fn cost(size: Size, record: &[u32]) -> u64 {
-            let start = &record[..size.record_place(1, 0)];
-            let vehicles: u64 = start.chunks_exact(4).map(|entry| u64::from(entry[0])).sum();
-            Quick::cost(size, record) + vehicles
+        fn cost(record: &Record) -> u64 {
+            let vehicles: u64 = record.state(0).iter().map(|entry| entry.vehicles).sum();
+            Quick::cost(record) + vehicles
         }
     }
 
     CostWithoutLastState {
-        fn cost(size: Size, record: &[u32]) -> u64 {
-            Quick::cost(Size { steps: size.steps - 1, ..size }, record)
+        fn cost(record: &Record) -> u64 {
+            let last = record.state(record.size.steps).iter();
+            Quick::cost(record) - last.map(|entry| entry.vehicles + entry.queue).sum::<u64>()
         }
     }
 
     CostIn32Bits {
-        fn cost(size: Size, record: &[u32]) -> u64 {
-            u64::from(Quick::cost(size, record) as u32)
+        fn cost(record: &Record) -> u64 {
+            u64::from(Quick::cost(record) as u32)
         }
     }
 
