@@ -1,12 +1,12 @@
 /* Every call of the header at least once, on B, the corridor that docs/MODEL.md works through: case 1 simulated, checked, converted and brought to normal form, by words,
- * by nodes and by files; then with demands of kind 5, which let 70 units out of link 2; then with a corridor of kind 10, whose link 2 discharges 80 above 190. It prints
- * nothing and ends with status 0 where all is as worked there. */
+ * by nodes and by files; then with demands of kind 5, which let 70 units out of link 2; then with a corridor of kind 10, whose link 2 discharges 80 above 190; then with
+ * records of kind 7, which list the 20 units that leave by off-ramp 1. It prints nothing and ends with status 0 where all is as worked there. */
 #include "gigorchid.h"
 
 #include <stdio.h>
 #include <string.h>
 
-enum { N = 2, K = 1, CORRIDOR = 28, DROP = 34, DEMANDS = 7, DOWNSTREAM = 8, PLAN = 6, RECORD = 26, BLOCK = 512 };
+enum { N = 2, K = 1, CORRIDOR = 28, DROP = 34, DEMANDS = 7, DOWNSTREAM = 8, PLAN = 6, RECORD = 26, EXITS = 32, BLOCK = 512 };
 
 static const uint32_t corridor[CORRIDOR] = {2, 10, 0, 0, 0, 0, 100, 1000, 0, 0, 20, 100, 32768, 32768, 400, 60, 200, 200, 50, 30, 100, 32768, 32768, 400, 0, 0, 200, 0};
 /* No link drops. */
@@ -21,6 +21,9 @@ static const uint32_t record[RECORD] = {0, 0, 0, 0, 200, 50, 80, 40, 200, 0, 100
 static const uint32_t downstream[DOWNSTREAM] = {1, 30, 0, 10, 16384, 0, 0, 70};
 static const uint32_t behind[RECORD] = {0, 0, 0, 0, 200, 50, 80, 40, 200, 0, 70, 0, 0, 30, 0, 0, 120, 20, 0, 0, 230, 0, 0, 0, 400, 0};
 static const uint32_t dropped[RECORD] = {0, 0, 0, 0, 200, 50, 80, 40, 200, 0, 80, 0, 0, 30, 0, 0, 120, 20, 0, 0, 220, 0, 0, 0, 390, 0};
+/* The record with its exits: a fifth word for each node. That of node 1 in step 0 is a quarter of 80. */
+static const uint32_t exits[EXITS] = {0, 0, 0, 0, 0, 200, 50, 80, 40, 20, 200, 0, 100, 0, 0, 0, 30, 0, 0, 0, 120, 20, 0, 0, 0, 200, 0, 0, 0, 0, 370, 0};
+enum { EXIT_1 = 9, EXIT_2 = 14, LAST_EXIT_1 = 24 };
 static const uint32_t normal[PLAN] = {0, 0, 50, 32768, 0, 32768};
 
 static uint32_t work[RECORD], found[PLAN];
@@ -169,7 +172,73 @@ static int with_drop(void)
     return 0;
 }
 
+/* The length of a lent record chooses its kind, and the normal form is the same with a work record of either. */
+static int lent_of_kind_7(void)
+{
+    uint32_t lent[EXITS];
+    memset(lent, 255, sizeof lent);
+    if (gigorchid_simulate_words(corridor, CORRIDOR, demands, DEMANDS, plan, PLAN, lent, EXITS) != 0 || !same(lent, exits, EXITS))
+        return wrong("simulate_words into a record of kind 7");
+    memset(lent, 255, sizeof lent);
+    if (gigorchid_simulate_nodes(nodes, N + 1, demands, DEMANDS, plan, PLAN, lent, EXITS) != 0 || !same(lent, exits, EXITS))
+        return wrong("simulate_nodes into a record of kind 7");
+    if (gigorchid_simulate_words(corridor, CORRIDOR, demands, DEMANDS, plan, PLAN, lent, EXITS - 1) != GIGORCHID_BAD_LENGTH || !same(lent, exits, EXITS))
+        return wrong("a lent record of neither length");
+    memset(lent, 255, sizeof lent);
+    clear();
+    if (gigorchid_normal_words(corridor, CORRIDOR, demands, DEMANDS, plan, PLAN, lent, EXITS, found, PLAN) != 0 || !same(lent, exits, EXITS) || !same(found, normal, PLAN))
+        return wrong("normal_words with a work record of kind 7");
+    clear();
+    if (gigorchid_normal_words(corridor, CORRIDOR, demands, DEMANDS, plan, PLAN, work, RECORD, found, PLAN) != 0 || !same(work, record, RECORD) || !same(found, normal, PLAN))
+        return wrong("normal_words with a work record of kind 3");
+    return 0;
+}
+
+/* A proposed record of kind 7: the plan is that of kind 3, and a wrong exit is refused, by 7 where zero is fixed. */
+static int proposed_of_kind_7(void)
+{
+    uint32_t proposed[EXITS];
+    memcpy(proposed, exits, sizeof exits);
+    clear();
+    if (gigorchid_check_words(corridor, CORRIDOR, demands, DEMANDS, proposed, EXITS) != 0
+        || gigorchid_convert_words(corridor, CORRIDOR, demands, DEMANDS, proposed, EXITS, found, PLAN) != 0 || !same(found, normal, PLAN))
+        return wrong("convert_words of a record of kind 7");
+    proposed[EXIT_1] = 21;
+    if (gigorchid_check_words(corridor, CORRIDOR, demands, DEMANDS, proposed, EXITS) != 1 * 256 + GIGORCHID_BAD_NEXT_STATE)
+        return wrong("21 by off-ramp 1");
+    proposed[EXIT_2] = 1;
+    if (gigorchid_check_words(corridor, CORRIDOR, demands, DEMANDS, proposed, EXITS) != 2 * 256 + GIGORCHID_BAD_FIXED_WORD)
+        return wrong("an exit at node N");
+    memcpy(proposed, exits, sizeof exits);
+    proposed[LAST_EXIT_1] = 1;
+    if (gigorchid_check_nodes(nodes, N + 1, demands, DEMANDS, proposed, EXITS) != 1 * 65536 + 1 * 256 + GIGORCHID_BAD_FIXED_WORD)
+        return wrong("an exit in state K");
+    return 0;
+}
+
+static int files_of_kind_7(void)
+{
+    uint32_t words[EXITS];
+    if (gigorchid_write_corridor(N, K, corridor, CORRIDOR, corridor_file, BLOCK) != 0
+        || gigorchid_write_demands(N, K, demands, DEMANDS, demands_file, BLOCK) != 0)
+        return wrong("a writer");
+    if (gigorchid_write_record(N, K, exits, EXITS, record_file, BLOCK) != 0 || record_file[0] != 7
+        || gigorchid_record_words(N, K, record_file, BLOCK) != EXITS)
+        return wrong("write_record of kind 7");
+    if (gigorchid_read_record(N, K, record_file, BLOCK, words, EXITS) != 0 || !same(words, exits, EXITS))
+        return wrong("read_record of kind 7");
+    if (gigorchid_read_record(N, K, record_file, BLOCK, words, RECORD) != GIGORCHID_BAD_LENGTH)
+        return wrong("a record of kind 7 read into a list of kind 3's length");
+    clear();
+    if (gigorchid_check_files(N, K, corridor_file, BLOCK, demands_file, BLOCK, record_file, BLOCK) != 0
+        || gigorchid_convert_files(N, K, corridor_file, BLOCK, demands_file, BLOCK, record_file, BLOCK, plan_file, BLOCK) != 0
+        || gigorchid_read_plan(N, K, plan_file, BLOCK, found, PLAN) != 0 || !same(found, normal, PLAN))
+        return wrong("convert_files with a record of kind 7");
+    return 0;
+}
+
 int main(void)
 {
-    return by_words() || by_nodes() || by_files() || read_back() || with_downstream() || with_drop();
+    return by_words() || by_nodes() || by_files() || read_back() || with_downstream() || with_drop() || lent_of_kind_7() || proposed_of_kind_7()
+        || files_of_kind_7();
 }

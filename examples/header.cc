@@ -12,12 +12,15 @@ static_assert(GIGORCHID_DEMANDS_WORDS(GIGORCHID_MOST_LINKS, GIGORCHID_MOST_STEPS
 static_assert(GIGORCHID_DEMANDS_5_WORDS(GIGORCHID_MOST_LINKS, GIGORCHID_MOST_STEPS) == 188641, "demands of kind 5");
 static_assert(GIGORCHID_PLAN_WORDS(GIGORCHID_MOST_LINKS, GIGORCHID_MOST_STEPS) == 187200, "plan");
 static_assert(GIGORCHID_RECORD_WORDS(GIGORCHID_MOST_LINKS, GIGORCHID_MOST_STEPS) == 374662, "record");
+static_assert(GIGORCHID_RECORD_7_WORDS(GIGORCHID_MOST_LINKS, GIGORCHID_MOST_STEPS) == 468327, "record of kind 7");
+static_assert(GIGORCHID_RECORD_7_WORDS(1, 3) == GIGORCHID_RECORD_WORDS(1, 4), "a record's kind is told by N, K and its words");
 static_assert(GIGORCHID_FILE_BYTES(586) == 2560, "file of a corridor");
 static_assert(GIGORCHID_FILE_BYTES(716) == 3072, "file of a corridor of kind 10");
 static_assert(GIGORCHID_FILE_BYTES(187201) == 766976, "file of demands");
 static_assert(GIGORCHID_FILE_BYTES(188641) == 773120, "file of demands of kind 5");
 static_assert(GIGORCHID_FILE_BYTES(187200) == 766976, "file of a plan");
 static_assert(GIGORCHID_FILE_BYTES(374662) == 1534976, "file of a record");
+static_assert(GIGORCHID_FILE_BYTES(468327) == 1918464, "file of a record of kind 7");
 static_assert(GIGORCHID_FILE_BYTES(125) == GIGORCHID_BLOCK_BYTES && GIGORCHID_FILE_BYTES(126) == 2 * GIGORCHID_BLOCK_BYTES, "full block");
 static_assert(GIGORCHID_VERSION == 10000 * GIGORCHID_VERSION_MAJOR + 100 * GIGORCHID_VERSION_MINOR + GIGORCHID_VERSION_PATCH, "version");
 static_assert(sizeof(gigorchid_node) == 11 * sizeof(uint32_t), "a node has eleven words");
@@ -67,19 +70,22 @@ static bool kind_told(uint8_t kind)
     return gigorchid_file_is(kind, file, 4) && !gigorchid_file_is(kind, file, 3);
 }
 
-// And so how many words its corridor or its demands have: 10 and 5 are the later kinds.
+// And so how many words its corridor, its demands or its record have: 10, 5 and 7 are the later kinds.
 static bool words_told()
 {
-    const uint8_t files[][4] = {{1, 0, 0, 0}, {2, 0, 0, 0}, {5, 0, 0, 0}, {10, 0, 0, 0}};
+    const uint8_t files[][4] = {{1, 0, 0, 0}, {2, 0, 0, 0}, {5, 0, 0, 0}, {10, 0, 0, 0}, {3, 0, 0, 0}, {7, 0, 0, 0}};
     return gigorchid_corridor_words(2, files[0], 4) == GIGORCHID_CORRIDOR_WORDS(2)
         && gigorchid_corridor_words(2, files[2], 4) == GIGORCHID_CORRIDOR_WORDS(2)
         && gigorchid_corridor_words(2, files[3], 4) == GIGORCHID_CORRIDOR_10_WORDS(2)
         && gigorchid_demands_words(2, 3, files[1], 4) == GIGORCHID_DEMANDS_WORDS(2, 3)
         && gigorchid_demands_words(2, 3, files[2], 4) == GIGORCHID_DEMANDS_5_WORDS(2, 3)
-        && gigorchid_demands_words(2, 3, files[3], 4) == GIGORCHID_DEMANDS_WORDS(2, 3);
+        && gigorchid_demands_words(2, 3, files[3], 4) == GIGORCHID_DEMANDS_WORDS(2, 3)
+        && gigorchid_record_words(2, 3, files[4], 4) == GIGORCHID_RECORD_WORDS(2, 3)
+        && gigorchid_record_words(2, 3, files[5], 4) == GIGORCHID_RECORD_7_WORDS(2, 3)
+        && gigorchid_record_words(2, 3, files[3], 4) == GIGORCHID_RECORD_WORDS(2, 3);
 }
 
 int main()
 {
-    return version_agrees() && texts_differ() && answer_taken_apart() && kind_told(5) && kind_told(10) && words_told() ? 0 : 1;
+    return version_agrees() && texts_differ() && answer_taken_apart() && kind_told(5) && kind_told(7) && kind_told(10) && words_told() ? 0 : 1;
 }

@@ -1,4 +1,5 @@
 /* A small host: it loads a corridor's, the demands' and a record's file, converts the record, and prints the plan, or the refusal in words.
+ * Each of the three may be of either kind, which its first word tells.
  *
  *     host N K CORRIDOR DEMANDS RECORD [PLAN]
  *
@@ -69,7 +70,8 @@ static const char *spoken_of(uint32_t n, uint32_t k, const struct bytes files[3]
     if (n < 1 || n > GIGORCHID_MOST_LINKS || k < 1 || k > GIGORCHID_MOST_STEPS)
         return " (N or K)";
     const size_t counts[3] = {gigorchid_corridor_words(n, files[0].at, files[0].count),
-                              gigorchid_demands_words(n, k, files[1].at, files[1].count), GIGORCHID_RECORD_WORDS(n, k)};
+                              gigorchid_demands_words(n, k, files[1].at, files[1].count),
+                              gigorchid_record_words(n, k, files[2].at, files[2].count)};
     for (int i = 0; i < 3; i++) {
         uint32_t *words = space(counts[i] * sizeof *words);
         uint32_t answer = readers[i](n, k, files[i].at, files[i].count, words, counts[i]);

@@ -47,6 +47,7 @@
  *     limit   speed limit on a link         1/65,536 of its length a step   0..V
  *     f       flow that leaves a link       1/64 vehicle per step           in a record
  *     r       flow that leaves an on-ramp   1/64 vehicle per step           in a record
+ *     exit    flow onto an off-ramp         1/64 vehicle per step           in a record of kind 7
  *     cost    sum of all n and l over states 1..K, in 1/64 vehicle times steps; its low 32 bits first, then its high ones
  *
  * ---- Lists: the order of their words ----
@@ -55,12 +56,13 @@
  *                                                               dropped capacity, drop density
  *     demands   K, then for each step 0..K-1, each node 0..N:   Q, b; of kind 5 then, after all steps, for each step 0..K-1: P
  *     plan      for each step 0..K-1, each node 0..N:           rate, limit
- *     record    for each state 0..K, each node 0..N:            n, l, f, r; then the cost, 2 words
+ *     record    for each state 0..K, each node 0..N:            n, l, f, r; of kind 7 then, of the same node: exit; at the end of either
+ *                                                               kind the cost, 2 words
  *
  * At node i F, V, W, J, n, f, limit, dropped capacity and drop density are those of link i; C, L, l, r, Q and rate those of its on-ramp; b
- * that of its off-ramp.
- * Fixed at zero: F, V, W, J, n, f, b, limit, dropped capacity and drop density of node 0; C, L, l, r, Q, b and rate of node N; every f and r
- * of state K.
+ * and exit those of its off-ramp.
+ * Fixed at zero: F, V, W, J, n, f, b, exit, limit, dropped capacity and drop density of node 0; C, L, l, r, Q, b, exit and rate of node N;
+ * every f, r and exit of state K.
  *
  * A corridor is of kind 1, or of kind 10, for links that discharge less once a queue stands on them. N is read first; the count of words then
  * tells the kind in a list (100 words are kind 10 for 8 links and kind 1 for 10), and the first word in a file: 10 is kind 10, and any other,
@@ -72,11 +74,18 @@
  * a file of fewer than 4 bytes, is read as kind 2. Every call takes both. Kind 2 is kind 5 with P = 65,536 in every step, the most that any
  * link can send: traffic past link N is free.
  *
+ * A record is of kind 3, or of kind 7, which also lists the exits: exit is f x b / 65,536 rounded down, what rule 2 takes off f. That of node
+ * i in state k is word (k x (N + 1) + i) x 5 + 4 of the list, its words counted from 0. In a list the count of its words tells the kind, once
+ * N and K are read (42 words are kind 7 for one link and three steps, and kind 3 for one link and four), and so it does in a record that is
+ * lent: the exits are written where it has the count of kind 7. In a file the first word tells: 7 is kind 7, and any other, or a file of fewer
+ * than 4 bytes, is read as kind 3. Every call takes both. Kind 3 is kind 7 with the right exits: checker and converter answer the same, and
+ * the plan is the same.
+ *
  * ---- A step, at node i; every quotient is rounded down ----
  *
  *     1  sending       D = min(n x limit / 65,536, E)                       of link i; 0 at node 0; E = F where n is at or below the drop
  *                                                                           density, and the dropped capacity where n is above it
- *     2  through part  T(y) = y - y x b / 65,536, of a flow y               the rest leaves by the off-ramp
+ *     2  through part  T(y) = y - y x b / 65,536, of a flow y               the rest leaves by the off-ramp; that of f is exit
  *     3  offer         d = min(l, C, rate)                                  of the on-ramp; 0 at node N
  *     4  receiving     S = min(F, W x (J - n) / 65,536)                     all of link i + 1; S = P at node N
  *     5  merge         R = T(D) + d; where R <= S, f = D and r = d; else f = D x S / R and r = d x S / R; so at node N f = min(D, P)
@@ -88,11 +97,14 @@
 #include <stddef.h>
 #include <stdint.h>
 
-/* The version of this header and of the library that comes with it; the library itself does not tell. */
+/* The version of this header and of the library that comes with it; the library itself does not tell. New in 0.4.0 are records of kind 7. Code
+ * for 0.3.0 need not change, nor be compiled anew: GIGORCHID_RECORD_WORDS is still the count of kind 3, which still means kind 3, and what
+ * 0.3.0 accepts is accepted, with the same outputs. A record's file may now be of kind 7, though: the calls on files take it, and
+ * gigorchid_read_record refuses it by 1 unless it is lent the count that gigorchid_record_words tells. */
 #define GIGORCHID_VERSION_MAJOR 0
-#define GIGORCHID_VERSION_MINOR 3
+#define GIGORCHID_VERSION_MINOR 4
 #define GIGORCHID_VERSION_PATCH 0
-#define GIGORCHID_VERSION_TEXT "0.3.0"
+#define GIGORCHID_VERSION_TEXT "0.4.0"
 /* The three as one number, to compare: 10,000 x major + 100 x minor + patch. */
 #define GIGORCHID_VERSION (GIGORCHID_VERSION_MAJOR * 10000 + GIGORCHID_VERSION_MINOR * 100 + GIGORCHID_VERSION_PATCH)
 
@@ -107,9 +119,10 @@ extern "C" {
 /* How many words each list has for N links and K steps, and how many bytes a file of so many words has. Every count that is lent, an output's
  * too, is just this: any other is refused, by 1, and in a file that is read by 14. GIGORCHID_CORRIDOR_WORDS is for a corridor of kind 1,
  * GIGORCHID_CORRIDOR_10_WORDS for one of kind 10; GIGORCHID_DEMANDS_WORDS is for demands of kind 2, GIGORCHID_DEMANDS_5_WORDS for those of
- * kind 5, K words more; so where K is 1, a list of kind 2 with one word too many is one of kind 5. The macros give a size_t, take each
- * argument once, and are constants where their arguments are, though not in #if. They test nothing and may wrap: see that N and K are in range
- * first. The longest lists, for 64 links and 1,440 steps:
+ * kind 5, K words more; so where K is 1, a list of kind 2 with one word too many is one of kind 5; GIGORCHID_RECORD_WORDS is for a record of
+ * kind 3, GIGORCHID_RECORD_7_WORDS for one of kind 7. The macros give a size_t, take each argument once, and are constants where their
+ * arguments are, though not in #if. They test nothing and may wrap: see that N and K are in range first. The longest lists, for 64 links and
+ * 1,440 steps:
  *
  *                          words     bytes of its file
  *     corridor of kind 1       586       2,560
@@ -117,12 +130,13 @@ extern "C" {
  *     demands of kind 2    187,201     766,976
  *     demands of kind 5    188,641     773,120
  *     plan                 187,200     766,976
- *     record               374,662   1,534,976
+ *     record of kind 3     374,662   1,534,976
+ *     record of kind 7     468,327   1,918,464
  *
  * A file is a row of blocks of GIGORCHID_BLOCK_BYTES bytes: 128 words, each with its low byte first. Word 0 is the file's kind (1 or 10
- * corridor, 2 or 5 demands, 3 record, 4 plan), word 1 the block's number from 0, words 2..126 the list's next 125 words, zeros after its end,
- * and word 127 the sum of (2 j + 1) x word j over j = 0..126, modulo 2^32. So N stands in bytes 8..11 of a corridor's file, and K in those of
- * the demands'. */
+ * corridor, 2 or 5 demands, 3 or 7 record, 4 plan), word 1 the block's number from 0, words 2..126 the list's next 125 words, zeros after its
+ * end, and word 127 the sum of (2 j + 1) x word j over j = 0..126, modulo 2^32. So N stands in bytes 8..11 of a corridor's file, and K in those
+ * of the demands'. */
 #define GIGORCHID_MOST_LINKS 64
 #define GIGORCHID_MOST_STEPS 1440
 #define GIGORCHID_CORRIDOR_WORDS(n) (1 + (GIGORCHID_CAST(size_t, n) + 1) * 9)
@@ -131,6 +145,7 @@ extern "C" {
 #define GIGORCHID_DEMANDS_5_WORDS(n, k) (1 + GIGORCHID_CAST(size_t, k) * (GIGORCHID_CAST(size_t, n) * 2 + 3))
 #define GIGORCHID_PLAN_WORDS(n, k) (GIGORCHID_CAST(size_t, k) * (GIGORCHID_CAST(size_t, n) + 1) * 2)
 #define GIGORCHID_RECORD_WORDS(n, k) ((GIGORCHID_CAST(size_t, k) + 1) * (GIGORCHID_CAST(size_t, n) + 1) * 4 + 2)
+#define GIGORCHID_RECORD_7_WORDS(n, k) ((GIGORCHID_CAST(size_t, k) + 1) * (GIGORCHID_CAST(size_t, n) + 1) * 5 + 2)
 #define GIGORCHID_BLOCK_BYTES 512
 #define GIGORCHID_FILE_BYTES(words) ((GIGORCHID_CAST(size_t, words) + 124) / 125 * GIGORCHID_BLOCK_BYTES)
 
@@ -140,7 +155,8 @@ static inline int gigorchid_file_is(uint8_t kind, const uint8_t *file, size_t by
     return bytes >= 4 && file[0] == kind && file[1] == 0 && file[2] == 0 && file[3] == 0;
 }
 
-/* How many words the corridor in a file has, told N, and the demands in a file, told N and K: those of the kind that its first word tells. */
+/* How many words the corridor in a file has, told N, and the demands or the record in a file, told N and K: those of the kind that its first
+ * word tells. */
 static inline size_t gigorchid_corridor_words(uint32_t n, const uint8_t *file, size_t bytes)
 {
     return gigorchid_file_is(10, file, bytes) ? GIGORCHID_CORRIDOR_10_WORDS(n) : GIGORCHID_CORRIDOR_WORDS(n);
@@ -151,9 +167,14 @@ static inline size_t gigorchid_demands_words(uint32_t n, uint32_t k, const uint8
     return gigorchid_file_is(5, file, bytes) ? GIGORCHID_DEMANDS_5_WORDS(n, k) : GIGORCHID_DEMANDS_WORDS(n, k);
 }
 
+static inline size_t gigorchid_record_words(uint32_t n, uint32_t k, const uint8_t *file, size_t bytes)
+{
+    return gigorchid_file_is(7, file, bytes) ? GIGORCHID_RECORD_7_WORDS(n, k) : GIGORCHID_RECORD_WORDS(n, k);
+}
+
 /* The parts of an answer. The row is the step of 5, 6 and 8 to 12, the state of 7, the block of 15 to 18, and 0 elsewhere; the node is that
- * of 2 to 12, and 0 elsewhere. 8 to 10 speak of state row, 11 and 12 of state row + 1; 9 of link node and link node + 1, at
- * node N of link N and what lies past it. */
+ * of 2 to 12, and 0 elsewhere. 8 to 10, and 11 of an exit, speak of state row, 11 of n or l and 12 of state row + 1; 9 of link node and link
+ * node + 1, at node N of link N and what lies past it. 11 does not tell whether the exit or the next n or l is wrong. */
 #define GIGORCHID_REFUSAL(answer) (GIGORCHID_CAST(uint32_t, answer) & 255)
 #define GIGORCHID_NODE(answer) (GIGORCHID_CAST(uint32_t, answer) >> 8 & 255)
 #define GIGORCHID_ROW(answer) (GIGORCHID_CAST(uint32_t, answer) >> 16)
@@ -172,7 +193,7 @@ static inline size_t gigorchid_demands_words(uint32_t n, uint32_t k, const uint8
     ENTRY(GIGORCHID_BAD_SENDING, 8, "f is more than the link can send at full speed: above n x V / 65,536, above F, or above its dropped capacity where n is above its drop density") \
     ENTRY(GIGORCHID_BAD_MERGE, 9, "T(f) + r is more than the next link can take in, at node N more than may leave: above S")                                                          \
     ENTRY(GIGORCHID_BAD_RAMP_FLOW, 10, "r is above l or above C")                                                                                                                     \
-    ENTRY(GIGORCHID_BAD_NEXT_STATE, 11, "n or l of the next state is not what rule 6 gives")                                                                                          \
+    ENTRY(GIGORCHID_BAD_NEXT_STATE, 11, "the exit is not f x b / 65,536 rounded down, or n or l of the next state is not what rule 6 gives")                                          \
     ENTRY(GIGORCHID_BAD_QUEUE, 12, "l of the next state is above L")                                                                                                                  \
     ENTRY(GIGORCHID_BAD_COST, 13, "the cost is not the sum of all n and l over states 1..K")                                                                                          \
     ENTRY(GIGORCHID_BAD_FILE_LENGTH, 14, "the file has not the bytes that N, K and its kind ask for")                                                                                 \
@@ -201,14 +222,15 @@ static inline const char *gigorchid_refusal_text(uint32_t number)
 
 /* ---- word lists: N and K are the first words of corridor and demands ---- */
 
-/* Fills `record` with the plan's record; refused by 1 to 6. */
+/* Fills `record` with the plan's record, of the kind that its count of words tells: with GIGORCHID_RECORD_7_WORDS(n, k) words the exits are
+ * listed; refused by 1 to 6. */
 uint32_t gigorchid_simulate_words(const uint32_t *corridor, size_t corridor_words,
                                   const uint32_t *demands, size_t demands_words,
                                   const uint32_t *plan, size_t plan_words,
                                   uint32_t *record, size_t record_words);
 
-/* Checks a proposed record: accepted exactly where some plan within bounds has it and keeps every queue within its limit; refused by 1 to 5
- * and 7 to 13. */
+/* Checks a proposed record of either kind: accepted exactly where some plan within bounds has it, in every word, and keeps every queue within
+ * its limit; refused by 1 to 5 and 7 to 13. */
 uint32_t gigorchid_check_words(const uint32_t *corridor, size_t corridor_words,
                                const uint32_t *demands, size_t demands_words,
                                const uint32_t *record, size_t record_words);
@@ -222,9 +244,10 @@ uint32_t gigorchid_convert_words(const uint32_t *corridor, size_t corridor_words
                                  const uint32_t *record, size_t record_words,
                                  uint32_t *plan, size_t plan_words);
 
-/* Simulates the plan into `work`, which has a record's words, and fills `normal` with the converter's plan for that record, the plan's
- * normal form; refused by 1 to 6, and by 12, which leaves the plan's record in `work`. Two plans that keep every queue within its limit have
- * the same normal form exactly when they have the same record. */
+/* Simulates the plan into `work`, which has the words of a record of either kind, and fills `normal` with the converter's plan for that record,
+ * the plan's normal form; refused by 1 to 6, and by 12, which leaves the plan's record in `work`. The kind of `work` changes neither the answer
+ * nor the normal form. Two plans that keep every queue within its limit have the same normal form exactly when they have the same record, of
+ * one kind, in every word. */
 uint32_t gigorchid_normal_words(const uint32_t *corridor, size_t corridor_words,
                                 const uint32_t *demands, size_t demands_words,
                                 const uint32_t *plan, size_t plan_words,
@@ -270,11 +293,11 @@ uint32_t gigorchid_normal_nodes(const struct gigorchid_node *corridor, size_t no
 
 /* ---- files to words and back, told N and K ----
  *
- * A reader answers 1 for a bad N or K or a wrong count of words, which for a corridor and for demands is any but that of the file's kind; then
- * 14, then 15, 16, 17 block by block, then 18, then 1 if the file's own N or K, the first word of a corridor and of demands, is another. A
- * writer answers 1 for a bad N or K, a wrong count of bytes or words, or a list whose own N or K is another; it tests no other word. The count
- * of words of a corridor or of demands tells its kind, and with it the count of bytes. N and K are tested for 1..64 and 1..1,440 even where a
- * list does not depend on them. */
+ * A reader answers 1 for a bad N or K or a wrong count of words, which is any but that of the file's kind; then 14, then 15, 16, 17 block by
+ * block, then 18, then 1 if the file's own N or K, the first word of a corridor and of demands, is another. A writer answers 1 for a bad N or
+ * K, a wrong count of bytes or words, or a list whose own N or K is another; it tests no other word. The count of words of a corridor, of
+ * demands or of a record tells its kind, and with it the count of bytes. N and K are tested for 1..64 and 1..1,440 even where a list does not
+ * depend on them. */
 uint32_t gigorchid_read_corridor(uint32_t n, uint32_t k, const uint8_t *file, size_t bytes, uint32_t *words, size_t count);
 uint32_t gigorchid_read_demands(uint32_t n, uint32_t k, const uint8_t *file, size_t bytes, uint32_t *words, size_t count);
 uint32_t gigorchid_read_record(uint32_t n, uint32_t k, const uint8_t *file, size_t bytes, uint32_t *words, size_t count);
@@ -289,10 +312,10 @@ uint32_t gigorchid_write_plan(uint32_t n, uint32_t k, const uint32_t *words, siz
  * They answer 1 for a bad N or K or a wrong count of plan bytes, then what the readers of corridor, demands and record answer in turn, then
  * what the call on words answers. So 1 and 14 to 18 do not tell which file they speak of. To learn it:
  *   - See that N is 1..64, K is 1..1,440 and plan_bytes is as below; else that is the fault.
- *   - Call the three readers in this order, the first two with gigorchid_corridor_words and gigorchid_demands_words of their files: the first
- *     that refuses has the file, and its answer is the same number (examples/host.c does so).
+ *   - Call the three readers in this order, with gigorchid_corridor_words, gigorchid_demands_words and gigorchid_record_words of their files:
+ *     the first that refuses has the file, and its answer is the same number (examples/host.c does so).
  *   - Of 1 and 14, N or K itself may be wrong: compare them with bytes 8..11 of the corridor's and of the demands' file. So may the first word
- *     of either, which chooses its kind. */
+ *     of any of the three, which chooses its kind. */
 uint32_t gigorchid_check_files(uint32_t n, uint32_t k,
                                const uint8_t *corridor, size_t corridor_bytes,
                                const uint8_t *demands, size_t demands_bytes,

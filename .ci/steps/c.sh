@@ -42,12 +42,16 @@ for tool in "${tools[@]}"; do
     run 0 drop demands case14 "$tool"
     run 1 drop demands case15 "$tool"
     run 0 drop downstream case11 "$tool"
+    run 0 corridor demands case16 "$tool"
+    run 1 corridor demands case17 "$tool"
+    run 0 drop downstream case18 "$tool"
 done
 valgrind --quiet --error-exitcode=9 "$work/calls"
 run 0 corridor demands case1 valgrind --quiet --error-exitcode=9 "$work/host"
 run 1 corridor demands case5 valgrind --quiet --error-exitcode=9 "$work/host"
 run 0 corridor downstream case12 valgrind --quiet --error-exitcode=9 "$work/host"
 run 1 drop demands case15 valgrind --quiet --error-exitcode=9 "$work/host"
+run 1 corridor demands case17 valgrind --quiet --error-exitcode=9 "$work/host"
 
 # refused TEXT N K CORRIDOR DEMANDS RECORD: the host says so
 refused() {
@@ -67,6 +71,8 @@ head -c 511 $b/drop.blocks > "$work/short.blocks"
 refused 'refused by 14 at row 0, node 0: .* (corridor)$' 2 1 "$work/short.blocks" $b/demands.blocks $b/case14.blocks
 refused 'refused by 14 at row 0, node 0: .* (demands)$' 2 1 $b/corridor.blocks "$work/cut.blocks" $b/case1.blocks
 refused 'refused by 14 at row 0, node 0: .* (demands)$' 2 1 $b/corridor.blocks /dev/null $b/case1.blocks
+head -c 511 $b/case16.blocks > "$work/ended.blocks"
+refused 'refused by 14 at row 0, node 0: .* (record)$' 2 1 $b/corridor.blocks $b/demands.blocks "$work/ended.blocks"
 refused 'refused by 1 at row 0, node 0: .* (corridor)$' 3 1 $b/corridor.blocks $b/demands.blocks $b/case1.blocks
 refused 'refused by 1 at row 0, node 0: .* (N or K)$' 0 1 $b/corridor.blocks $b/demands.blocks $b/case1.blocks
-echo "the C examples agree with document 01 and requests 01 and 07"
+echo "the C examples agree with document 01 and requests 01, 04 and 07"

@@ -8,7 +8,7 @@ trap 'rm -rf "$work"' EXIT
 
 awk '/^```sh$/ { inside = 1; next } /^```$/ { inside = 0 } inside' README.md > "$work/commands"
 bash -euo pipefail "$work/commands" > "$work/out"
-for line in 'PLAN 1 3 370' '0 20 50 32768 F' 'PLAN 1 3 400' 'PLAN 1 3 390' 'step 0, node 1: rate 50, limit 32768'; do
+for line in 'PLAN 1 3 370' '0 20 50 32768 F' 'PLAN 1 3 400' 'PLAN 1 3 390' 'PLAN 1 3 396' '0 20 26 32768 F' 'step 0, node 1: rate 50, limit 32768'; do
     grep -qx "$line" "$work/out" || { echo "the commands of README.md do not print: $line"; exit 1; }
 done
 
