@@ -1,17 +1,22 @@
 -- Checker and converter on the rows of one step alone, and what each asks of the words that it is given.
 use Prim.Native.Nat.{ℕ, zero, suc, _+_, _*_, _≤_}
 use mathlib.Core.Path.{_≡_}
+use mathlib.Core.Bool.{cond}
 use mathlib.Core.List.{List, []}
+use lib.Dec.{ltb}
 use lib.ListN.{length, getD}
 use Rattle.tables.specs.declared.Answer.{Answer}
+use Rattle.tables.specs.declared.Answer.the-variants.{Accepted, Refused}
+use Rattle.tables.specs.Answer.{unless}
 use Rattle.tables.specs.First.{firstNode, firstPlace}
 use Rattle.tables.specs.Grid.{rowWords}
 use Rattle.road.specs.Corridor.{Road}
+use Rattle.road.specs.Step.{exit}
 use Rattle.road.specs.Run.{junction, next, stateCost}
 use Rattle.road.specs.Limits.{Limits}
 use Rattle.settings.specs.declared.Setting.{Setting}
 use Rattle.settings.specs.Setting.{settingFor, rateIn, limitIn}
-use Rattle.faults.specs.Records.{fixedFault, stepFault}
+use Rattle.faults.specs.Records.{exitKept, fixedFault, stepFault}
 use Rattle.lists.specs.Words.{nodeAt, roadOf, Width, traceOf, exitsOf, recordLength}
 use Rattle.lists.specs.Rows.{stateIn, flowsIn, exitIn, stepRoad}
 use Rattle.lists.specs.Fits.{CorridorFits, DemandsFit, RowFits}
@@ -49,6 +54,15 @@ unfoldable pub stepFaultIn : ℕ → List ℕ → List ℕ → ℕ → List ℕ 
 stepFaultIn width corridor demand downstream row after i =
     stepFault (junction (stepRoad corridor demand downstream) 0 (stateIn width row) i) (flowsIn width row i) (exitIn width row i)
     (next (stepRoad corridor demand downstream) 0 (stateIn width row) (flowsIn width row) i) (stateIn width after i)
+
+-- refusal 11 for the exit of node i that a row says, or 0
+abbrev pub exitFaultIn : ℕ → List ℕ → List ℕ → ℕ → ℕ
+exitFaultIn width demand row i = unless (exitKept (exitIn width row i) (exit (flowsIn width row i .main) (getD demand (i * 2 + 1) 0))) 11
+
+-- of how many nodes of a row the exits come before an answer that was found without a look at them: 8, 9 and 10 come before the exit of their own node
+abbrev pub exitsDue : Answer → ℕ → ℕ
+exitsDue Accepted count = count
+exitsDue (Refused number row node) count = cond (ltb 10 number) (node + 1) node
 
 -- in step k
 abbrev pub stepRefusal : ℕ → List ℕ → List ℕ → ℕ → List ℕ → ℕ → Answer

@@ -23,7 +23,7 @@ use Rattle.simulate.specs.Simulate.{stateRow, stepRow, ranCost}
 use Rattle.simulate.proofs.Rows.{row-state, row-flows}
 
 -- rows with the same states, flows and off-ramp flows at nodes 0..N are one list
-row-same : (width links : ℕ) (state after : ℕ → NodeState) (flows other : ℕ → Flows) (off off′ : ℕ → ℕ) → ((i : ℕ) → i ≤ links → state i ≡ after i)
+pub row-same : (width links : ℕ) (state after : ℕ → NodeState) (flows other : ℕ → Flows) (off off′ : ℕ → ℕ) → ((i : ℕ) → i ≤ links → state i ≡ after i)
     → ((i : ℕ) → i ≤ links → flows i ≡ other i) → ((i : ℕ) → i ≤ links → off i ≡ off′ i) → rowOf width links state flows off ≡ rowOf width links after other off′
 unfolding rowOf
 row-same width links state after flows other off off′ s f x =

@@ -57,6 +57,13 @@ nextRow width links demand row = restRow width links (next (stepRoad [] demand 0
 unfoldable pub rowCost : ℕ → ℕ → List ℕ → ℕ
 rowCost width links row = stateCost (suc links) (stateIn width row)
 
+-- of a row with five words a node the one with four, and of one with four the one with five, where the fifth is what leaves of the node's f
+unfoldable pub narrowRow : ℕ → List ℕ → List ℕ
+narrowRow links row = rowOf 4 links (stateIn 5 row) (flowsIn 5 row) (λ i. 0)
+
+unfoldable pub widenRow : ℕ → List ℕ → List ℕ → List ℕ
+widenRow links demand row = rowOf 5 links (stateIn 4 row) (flowsIn 4 row) (λ i. exit (flowsIn 4 row i .main) (getD demand (i * 2 + 1) 0))
+
 -- what a step asks at node i: vehicles and queue no more than a run within limits ever has, arrivals, split and limit in their ranges
 pub record StepKept (width : ℕ) (corridor demand plan state : List ℕ) (i : ℕ) : Type 0 where
   pub jam : stateIn width state i .vehicles ≤ nodeAt corridor i .link .jam

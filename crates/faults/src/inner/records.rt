@@ -98,7 +98,7 @@ pub fn fixed_fault(
 }
 
 // Refusal 11 for an exit that the record says of a flow, or 0.
-fn exit_fault(said: Exit, flow: Units, split: Parts) -> u32
+pub fn exit_fault(said: Exit, flow: Units, split: Parts) -> u32
     requires { ⌜ split .0 ≤ 65536 ⌝ }
     ensures { λ r. ⌜ r ≡ unless (exitKept said (exit (flow .0) (split .0))) 11 ⌝ }
 {

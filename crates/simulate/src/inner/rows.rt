@@ -1,13 +1,14 @@
 // One step on its rows: from a state's row to the record's row and to the next state's row.
 ghost use mathlib.Core.Path.{_≡_};
 ghost use mathlib.Core.List.{[]};
-ghost use Prim.Native.Nat.{ℕ, _+_, _≤_};
+ghost use Prim.Native.Nat.{ℕ, _+_, _*_, _≤_};
+ghost use lib.ListN.{getD};
 ghost use Rattle.road.specs.Run.{inflow, next};
 ghost use Rattle.road.specs.Values.{stateOf, flowsOf};
 ghost use Rattle.lists.specs.Words.{Width};
 ghost use Rattle.lists.specs.Rows.{stateIn, flowsIn, stepRoad};
 ghost use Rattle.lists.specs.Fits.{CorridorFits, RowFits, NodeIn};
-ghost use Rattle.simulate.specs.Rows.{putExit, putNode, startRow, rowFlows, flowRow, nextRow, rowCost, RowKept, RowsFit, Stepped};
+ghost use Rattle.simulate.specs.Rows.{putExit, putNode, startRow, rowFlows, flowRow, nextRow, rowCost, narrowRow, widenRow, RowKept, RowsFit, Stepped};
 use lists::inner::words;
 use road::Flows;
 use road::NodeState;
@@ -183,8 +184,9 @@ pub fn row_cost(links: usize, row: &[u32], width: usize) -> u64
     total
 }
 
-// One step: the record's row of the state, then the next state in its place. It gives the next state's vehicles and queues.
-pub fn step(
+// One step: the record's row of the state, then the next state in its place. It gives the next state's vehicles and queues. Its callers say 4 for
+// the width, so that the compiler has the number in all that it calls.
+fn step_narrow(
     corridor: &[u32],
     links: usize,
     demand: &[u32],
@@ -201,4 +203,87 @@ pub fn step(
     flow_row(corridor, links, demand, downstream, plan, state, row, width);
     next_row(links, demand, row, state, width);
     row_cost(links, state, width)
+}
+
+// The row with four words of each node, of one with five.
+pub fn narrow_row(from: &[u32], links: usize, to: &mut [u32])
+    requires { ⌜ (RowFits 5 (now from) links) × (RowFits 4 (now to) links) × (links ≤ 64) ⌝ }
+    ensures { λ _. ⌜ now (to .exit) ≡ narrowRow links (now (from .entry)) ⌝ }
+{
+    let nodes = links + 1;
+    let mut i: usize = 0;
+    while i < nodes {
+        put_node(
+            to,
+            4,
+            i,
+            words::state_at(from, 5, i),
+            words::flows_at(from, 5, i),
+            Units(0),
+        );
+        i += 1;
+    }
+}
+
+// The row with five words of each node, of one with four: the fifth is what leaves of its f.
+fn widen_row(from: &[u32], links: usize, demand: &[u32], to: &mut [u32])
+    requires { ⌜ (RowFits 4 (now from) links) × (RowFits 2 (now demand) links) × (RowFits 5 (now to) links) × (links ≤ 64) ⌝ }
+    requires { ⌜ ((j : ℕ) → j ≤ links → getD (now demand) (j * 2 + 1) 0 ≤ 65536) ⌝ }
+    ensures { λ _. ⌜ now (to .exit) ≡ widenRow links (now (demand .entry)) (now (from .entry)) ⌝ }
+{
+    let nodes = links + 1;
+    let mut i: usize = 0;
+    while i < nodes {
+        let flows = words::flows_at(from, 4, i);
+        let exit = road::inner::exit(flows.main, words::split_at(demand, i));
+        put_node(to, 5, i, words::state_at(from, 4, i), flows, exit);
+        i += 1;
+    }
+}
+
+// One step where a node has five words: on rows of four, with room for 65 nodes.
+fn step_wide(
+    corridor: &[u32],
+    links: usize,
+    demand: &[u32],
+    downstream: Units,
+    plan: &[u32],
+    state: &mut [u32],
+    row: &mut [u32],
+) -> u64
+    requires { ⌜ RowsFit 5 (now corridor) (now demand) (now plan) (now state) links ⌝ }
+    requires { ⌜ RowFits 5 (now row) links ⌝ }
+    ensures { λ r. ⌜ Stepped 5 (now (corridor .entry)) links (now (demand .entry)) (downstream .0) (now (plan .entry)) (now (state .entry)) (now (row .exit)) (now (state .exit)) r ⌝ }
+{
+    let words = (links + 1) * 4;
+    let mut state_room = [0u32; 260];
+    let mut row_room = [0u32; 260];
+    let small = &mut state_room[..words];
+    let flows = &mut row_room[..words];
+    narrow_row(state, links, small);
+    let total = step_narrow(corridor, links, demand, downstream, plan, small, flows, 4);
+    widen_row(flows, links, demand, row);
+    widen_row(small, links, demand, state);
+    total
+}
+
+// One step, with four words of each node or with five. It gives the next state's vehicles and queues.
+pub fn step(
+    corridor: &[u32],
+    links: usize,
+    demand: &[u32],
+    downstream: Units,
+    plan: &[u32],
+    state: &mut [u32],
+    row: &mut [u32],
+    width: usize,
+) -> u64
+    requires { ⌜ RowsFit width (now corridor) (now demand) (now plan) (now state) links ⌝ }
+    requires { ⌜ RowFits width (now row) links ⌝ }
+    ensures { λ r. ⌜ Stepped width (now (corridor .entry)) links (now (demand .entry)) (downstream .0) (now (plan .entry)) (now (state .entry)) (now (row .exit)) (now (state .exit)) r ⌝ }
+{
+    if width > 4 {
+        return step_wide(corridor, links, demand, downstream, plan, state, row);
+    }
+    step_narrow(corridor, links, demand, downstream, plan, state, row, 4)
 }

@@ -1,60 +1,35 @@
--- No node before i has a fault, and what node i − 1 passes on is at hand.
-use Prim.Native.Nat.{_+_, _-_}
+-- The width tells the kind.
+use mathlib.Core.Path.{_≡_}
 use native.Mathlib.Omega.{arith}
-use borrow.Author.Needs.{needs}
-use Rattle.tables.proofs.Sets.{scans}
-use Rattle.lists.proofs.Rows.{node-among}
-use Rattle.lists.proofs.Scans.{nodes-stop, nodes-ended}
-use Rattle.convert.proofs.Steps.{Stepping, stepping-begun, stepping-more, passes-on}
+use Rattle.convert.proofs.Exits.{kept-told, answer-told}
 use Rattle.convert.proofs.inner.rows.step_row.Statement.{statement}
 use Rattle.convert.proofs.inner.rows.step_row.Tie as tie
 
-abbrev Inv-loop : tie.InvT-loop
-Inv-loop k corridor links demand downstream row after width nodes gained₀ i₀ gained i = Stepping width i links k corridor demand (downstream .0) row after gained
+step-wide-requires : tie.Need-step-wide-requires
+step-wide-requires c κs =
+    let k = c .before .before .before .before .before in
+    let e : k .args .width ≡ 5 = omega (arith, k .pre .0 .wide .most) in
+    let t = kept-told _ _ _ _ _ (k .args .after .now) _ e (k .pre .0) (k .pre .1 .0) in
+    (t .0, (t .1, k .pre .1 .1))
 
-abbrev μ-loop : tie.MeasureT-loop
-μ-loop k corridor links demand downstream row after width nodes gained₀ i₀ gained i = links + 1 - i
+returns : tie.Need-returns
+returns c =
+    let k = c .before .before .before .before .before .before in
+    let e : k .args .width ≡ 5 = omega (arith, k .pre .0 .wide .most) in
+    answer-told _ _ _ _ _ _ _ _ _ _ e (c .step-wide .ensures)
 
-add-nodes : tie.Need-add-nodes Inv-loop μ-loop
-add-nodes c = omega (arith, c .before .before .before .before .pre .0 .corridorFits .few)
+step-nodes-requires : tie.Need-step-nodes-requires
+step-nodes-requires c κs =
+    let k = c .before .before .before .before .before in
+    let e : k .args .width ≡ 4 = omega (arith, k .pre .0 .wide .least) in
+    let t = kept-told _ _ _ _ _ (k .args .after .now) _ e (k .pre .0) (k .pre .1 .0) in
+    (t .0, (t .1, k .pre .1 .1))
 
-step-answer-requires : tie.Need-step-answer-requires Inv-loop μ-loop
-step-answer-requires c κs =
-    let l = c .before in
-    let k = l .before .before .before .before .before in
-    (k .pre .0, (k .pre .1, (omega arith, l .loop .inv .small, l .loop .inv .gains)))
-
-outflow-at-requires : tie.Need-outflow-at-requires Inv-loop μ-loop
-outflow-at-requires c κs =
-    let l = c .before .before .before .before in
-    let k = l .before .before .before .before .before in
-    let r = k .pre .0 in (
-      (
-        node-among 2 (k .args .links) (l .loop .i) (k .args .demand .now) (r .demandFits) (omega arith),
-        node-among (k .args .width) (k .args .links) (l .loop .i) (k .args .row .now) (r .rowFits) (omega arith),
-        r .wide,
-      ),
-      passes-on _ _ _ _ _ (k .args .after .now) _ _ (k .args .k) _ _ r (omega arith) (c .before .before .step-answer .ensures) (c .before .is-refused .ensures) (c .if1 .left),
-    )
-
-loop-again : tie.Need-loop-again Inv-loop μ-loop
-loop-again c =
-    stepping-more _ _ _ _ _ _ _ _ _ _ _ (c .before .before .before .step-answer .result) _ (c .before .before .before .before .before .loop .inv) (omega arith) (c .before .before .before .step-answer .ensures) (c .before .before .is-refused .ensures) (c .before .if1 .left)
-    (c .outflow-at .ensures .0) (c .outflow-at .ensures .1)
+returns-2 : tie.Need-returns-2
+returns-2 c =
+    let k = c .before .before .before .before .before .before in
+    let e : k .args .width ≡ 4 = omega (arith, k .pre .0 .wide .least) in
+    answer-told _ _ _ _ _ _ _ _ _ _ e (c .step-nodes .ensures)
 
 pub step-row-spec : {M : Type 1} → statement M
-step-row-spec =
-    tie.close
-    (tie.spec
-    Inv-loop
-    μ-loop
-    add-nodes
-    (λ c. stepping-begun _ _ _ _ _ _ _ _)
-    step-answer-requires
-    (λ c κs. search needs)
-    (λ c. search (scans, nodes-stop))
-    outflow-at-requires
-    (λ c. search needs)
-    (λ c. search needs)
-    loop-again
-    (λ c. search nodes-ended))
+step-row-spec = tie.close (tie.spec step-wide-requires returns step-nodes-requires returns-2)

@@ -1,22 +1,45 @@
--- The flows of the first row keep what the second asks.
+-- The width that is told is one of two numbers.
+use native.Mathlib.Omega.{arith}
 use borrow.Author.Needs.{needs}
-use Rattle.simulate.proofs.Rows.{flow-moves}
+use Rattle.simulate.proofs.Wide.{told-five, told-four, told-rows, told-step}
 use Rattle.simulate.proofs.inner.rows.step.Statement.{statement}
 use Rattle.simulate.proofs.inner.rows.step.Tie as tie
 
-next-row-requires : tie.Need-next-row-requires
-next-row-requires c κs =
-    let f = c .before .before .before .before in
-    let k = f .before .before .before .before .before .before .before .before in
-    ((search needs, search needs, search needs, k .pre .0 .wide, k .pre .0 .corridorFits .few), flow-moves _ _ _ _ _ _ _ (k .pre .0) _ (f .flow-row .ensures))
+step-wide-requires : tie.Need-step-wide-requires
+step-wide-requires c κs =
+    let t = c .before .before in
+    let k = t .before .before .before .before .before .before in
+    told-rows _ _ (told-five _ (k .pre .0 .wide) (omega (arith, t .if1 .taken))) _ _ _ _ _ (k .args .row .now) (k .pre .0) (k .pre .1)
+
+returns : tie.Need-returns
+returns c =
+    let s = c .before .before .before .before in
+    let t = s .before .before .before in
+    let k = t .before .before .before .before .before .before in
+    told-step _ _ (told-five _ (k .pre .0 .wide) (omega (arith, t .if1 .taken))) _ _ _ _ _ _ _ _ _ (s .step-wide .ensures)
+
+step-narrow-requires : tie.Need-step-narrow-requires
+step-narrow-requires c κs =
+    let t = c .before .before in
+    let k = t .before .before .before .before .before .before in
+    told-rows _ _ (told-four _ (k .pre .0 .wide) (omega (arith, t .if1 .left))) _ _ _ _ _ (k .args .row .now) (k .pre .0) (k .pre .1)
+
+returns-2 : tie.Need-returns-2
+returns-2 c =
+    let s = c .before .before .before .before in
+    let t = s .before .before .before in
+    let k = t .before .before .before .before .before .before in
+    told-step _ _ (told-four _ (k .pre .0 .wide) (omega (arith, t .if1 .left))) _ _ _ _ _ _ _ _ _ (s .step-narrow .ensures)
 
 pub step-spec : {M : Type 1} → statement M
 step-spec =
     tie.close
     (tie.spec
-    (λ c κs. search needs)
-    next-row-requires
-    (λ c κs. search needs)
+    step-wide-requires
     (λ c. search needs)
     (λ c. search needs)
-    (λ c. search needs))
+    returns
+    step-narrow-requires
+    (λ c. search needs)
+    (λ c. search needs)
+    returns-2)
