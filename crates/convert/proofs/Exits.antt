@@ -13,6 +13,7 @@ use Rattle.tables.specs.Answer.{orElse, refusal, unless}
 use Rattle.tables.specs.First.{first, firstNode}
 use Rattle.tables.proofs.Answers.{Refuses, orElse-assoc, orElse-right, orElse-refuses}
 use Rattle.tables.proofs.First.{first-same}
+use Rattle.tables.proofs.Grid.{rowWords-same}
 use Rattle.road.specs.declared.Exit.{Exit}
 use Rattle.road.specs.declared.Exit.the-variants.{Unsaid}
 use Rattle.road.specs.declared.Flows as flows
@@ -21,6 +22,7 @@ use Rattle.road.specs.Corridor.{NodeState, Flows, Road}
 use Rattle.road.specs.Step.{exit}
 use Rattle.road.specs.Run.{junction, next}
 use Rattle.road.proofs.Same.{junction-same, next-same}
+use Rattle.settings.specs.Setting.{settingFor, rateIn, limitIn}
 use Rattle.faults.specs.Records.{exitKept, stepFault, firstFault, joinFault}
 use Rattle.faults.proofs.Records.{step-joined}
 use Rattle.lists.specs.Words.{linksOf, Width, nodeAt, exitSaid}
@@ -28,7 +30,7 @@ use Rattle.lists.specs.Rows.{stateIn, flowsIn, exitIn, stepRoad}
 use Rattle.lists.specs.Fits.{RowFits}
 use Rattle.simulate.specs.Rows.{narrowRow}
 use Rattle.simulate.proofs.Wide.{width-four, narrow-fits, narrow-state, narrow-flows}
-use Rattle.convert.specs.Rows.{stepFaultIn, exitFaultIn, exitsDue, NodeKept, RowsKept}
+use Rattle.convert.specs.Rows.{stepFaultIn, exitFaultIn, exitsDue, settingIn, settingWord, planRow, NodeKept, RowsKept, SentKept}
 
 -- ---- faults that are joined node by node are the answer without the exits, and before it the exits that are due
 
@@ -93,8 +95,7 @@ due-least links k d c corridor demand downstream small next′ p told due m =
 
 -- ---- rows of kind 7 and the same in kind 3, as calls gave them
 
-module _ (corridor demand : List ℕ) (downstream : ℕ) (row after small next′ : List ℕ) (links : ℕ) (n : links ≡ linksOf corridor)
-    (s : small ≡ narrowRow links row) (t : next′ ≡ narrowRow links after) where
+module _ (corridor demand : List ℕ) (downstream : ℕ) (row small : List ℕ) (links : ℕ) (n : links ≡ linksOf corridor) (s : small ≡ narrowRow links row) where
   states : (i : ℕ) → i ≤ links → stateIn 4 small i ≡ stateIn 5 row i
   states = narrow-state links row small s
 
@@ -112,32 +113,53 @@ module _ (corridor demand : List ℕ) (downstream : ℕ) (row after small next�
   small-kept r =
       record { corridorFits = r .corridorFits; demandFits = r .demandFits; rowFits = narrow-fits links row small s; wide = width-four; kept = λ i h. small-node i h (r .kept i h) }
 
-  -- the fault of a node in kind 7 is that in kind 3, joined with that of its exit
-  node-joined : (i : ℕ) → i ≤ links → stepFaultIn 5 corridor demand downstream row after i ≡ joinFault (stepFaultIn 4 corridor demand downstream small next′ i) (exitFaultIn 5 demand row i)
-  unfolding stepFaultIn exitSaid junction stepRoad
-  node-joined i h =
-      let road : Road = stepRoad corridor demand downstream in
-      let at = junction-same road 0 (stateIn 4 small) (stateIn 5 row) i (λ j hj. states j (omega arith)) (omega arith) in
-      let moves = next-same road 0 (stateIn 4 small) (stateIn 5 row) (flowsIn 4 small) (flowsIn 5 row) i (λ j hj. states j (omega arith)) (λ j hj. sent j (omega arith)) (omega arith) in
-      step-joined (junction road 0 (stateIn 5 row) i) (flowsIn 5 row i) (exitIn 5 row i) (next road 0 (stateIn 5 row) (flowsIn 5 row) i) (stateIn 5 after i)
-      ∙ ap (λ (x : ℕ). joinFault x (exitFaultIn 5 demand row i)) (sym (λ z. stepFault (at z) (sent i h z) Unsaid (moves z) (narrow-state links after next′ t i h z)))
+  pub small-sent : SentKept 5 row links → SentKept 4 small links
+  small-sent f i h =
+      let v : stateIn 4 small i .vehicles ≡ stateIn 5 row i .vehicles = ap (λ (x : NodeState). x .vehicles) (states i h) in
+      let m : flowsIn 4 small i .main ≡ flowsIn 5 row i .main = ap (λ (x : Flows). x .main) (sent i h) in
+      omega (arith, f i h)
 
-  -- p is the answer on the rows of kind 3, e that on the exits, and d how many of these were looked at, as calls gave them
-  module _ (k : ℕ) (p e : Answer) (d c : ℕ) (told : p ≡ firstNode (suc links) k (stepFaultIn 4 corridor demand downstream small next′)) (m : c ≡ links + 1) (due : d ≡ exitsDue p c)
-      (found : e ≡ firstNode d k (exitFaultIn 5 demand row)) where
-    whole : firstNode (suc links) k (stepFaultIn 5 corridor demand downstream row after) ≡ orElse e p
-    whole =
-        first-same (suc links) _ _ (λ i h. ap (λ (x : ℕ). refusal x k i) (node-joined i (omega arith)))
-        ∙ joined-first k (stepFaultIn 4 corridor demand downstream small next′) (exitFaultIn 5 demand row) (suc links)
-        ∙ sym
-        (ap₂ orElse
-        (found ∙ ap (λ (x : ℕ). firstNode x k (exitFaultIn 5 demand row)) (due ∙ ap₂ exitsDue told (m ∙ add-one links))) told)
+  at : (i : ℕ) → i ≤ links → junction (stepRoad corridor demand downstream) 0 (stateIn 4 small) i ≡ junction (stepRoad corridor demand downstream) 0 (stateIn 5 row) i
+  unfolding stepRoad
+  at i h = junction-same (stepRoad corridor demand downstream) 0 (stateIn 4 small) (stateIn 5 row) i (λ j hj. states j (omega arith)) (omega arith)
 
-    pub wide-exits : Refuses e → e ≡ firstNode (suc links) k (stepFaultIn 5 corridor demand downstream row after)
-    wide-exits r = sym (whole ∙ orElse-refuses e p r)
+  -- the converter's row of settings is the same
+  pub small-plan : planRow 4 corridor links demand downstream small ≡ planRow 5 corridor links demand downstream row
+  unfolding planRow settingWord settingIn
+  small-plan = rowWords-same 2 (suc links) _ _ word
+    where
+      word : (i q : ℕ) → i < suc links → q < 2 → settingWord 4 corridor demand downstream small i q ≡ settingWord 5 corridor demand downstream row i q
+      word i zero h b = λ z. rateIn (settingFor (at i (omega arith) z) (sent i (omega arith) z))
+      word i (suc q) h b = λ z. limitIn (nodeAt corridor i .link .fullSpeed) (settingFor (at i (omega arith) z) (sent i (omega arith) z))
 
-    pub wide-plain : e ≡ Accepted → p ≡ firstNode (suc links) k (stepFaultIn 5 corridor demand downstream row after)
-    wide-plain a = sym (whole ∙ ap (λ (x : Answer). orElse x p) a)
+  -- ---- and those after them
+
+  module _ (after next′ : List ℕ) (t : next′ ≡ narrowRow links after) where
+    -- the fault of a node in kind 7 is that in kind 3, joined with that of its exit
+    node-joined : (i : ℕ) → i ≤ links → stepFaultIn 5 corridor demand downstream row after i ≡ joinFault (stepFaultIn 4 corridor demand downstream small next′ i) (exitFaultIn 5 demand row i)
+    unfolding stepFaultIn exitSaid junction stepRoad
+    node-joined i h =
+        let road : Road = stepRoad corridor demand downstream in
+        let moves = next-same road 0 (stateIn 4 small) (stateIn 5 row) (flowsIn 4 small) (flowsIn 5 row) i (λ j hj. states j (omega arith)) (λ j hj. sent j (omega arith)) (omega arith) in
+        step-joined (junction road 0 (stateIn 5 row) i) (flowsIn 5 row i) (exitIn 5 row i) (next road 0 (stateIn 5 row) (flowsIn 5 row) i) (stateIn 5 after i)
+        ∙ ap (λ (x : ℕ). joinFault x (exitFaultIn 5 demand row i)) (sym (λ z. stepFault (at i h z) (sent i h z) Unsaid (moves z) (narrow-state links after next′ t i h z)))
+
+    -- p is the answer on the rows of kind 3, e that on the exits, and d how many of these were looked at, as calls gave them
+    module _ (k : ℕ) (p e : Answer) (d c : ℕ) (told : p ≡ firstNode (suc links) k (stepFaultIn 4 corridor demand downstream small next′)) (m : c ≡ links + 1) (due : d ≡ exitsDue p c)
+        (found : e ≡ firstNode d k (exitFaultIn 5 demand row)) where
+      whole : firstNode (suc links) k (stepFaultIn 5 corridor demand downstream row after) ≡ orElse e p
+      whole =
+          first-same (suc links) _ _ (λ i h. ap (λ (x : ℕ). refusal x k i) (node-joined i (omega arith)))
+          ∙ joined-first k (stepFaultIn 4 corridor demand downstream small next′) (exitFaultIn 5 demand row) (suc links)
+          ∙ sym
+          (ap₂ orElse
+          (found ∙ ap (λ (x : ℕ). firstNode x k (exitFaultIn 5 demand row)) (due ∙ ap₂ exitsDue told (m ∙ add-one links))) told)
+
+      pub wide-exits : Refuses e → e ≡ firstNode (suc links) k (stepFaultIn 5 corridor demand downstream row after)
+      wide-exits r = sym (whole ∙ orElse-refuses e p r)
+
+      pub wide-plain : e ≡ Accepted → p ≡ firstNode (suc links) k (stepFaultIn 5 corridor demand downstream row after)
+      wide-plain a = sym (whole ∙ ap (λ (x : Answer). orElse x p) a)
 
 -- ---- one node, by value
 
@@ -146,14 +168,18 @@ pub exit-number-is : (demand row : List ℕ) (i v b : ℕ) (f : flows.Flows) (x 
     → flowsOf f ≡ flowsIn 5 row i → b ≡ getD demand (i * 2 + 1) 0 → v ≡ exitFaultIn 5 demand row i
 exit-number-is demand row i v b f x e p q r = e ∙ (λ z. unless (exitKept (p z) (exit (q z .main) (r z))) 11)
 
--- ---- a width of 5, or of 4, by the test
+-- ---- the width that a call is told
 
--- what is asked with the one is asked with the other
-pub kept-told : (width told : ℕ) (corridor demand row after : List ℕ) (links : ℕ) → width ≡ told → RowsKept width corridor demand row links → RowFits width after links
-    → RowsKept told corridor demand row links × RowFits told after links
-kept-told width told corridor demand row after links e r f = (subst (λ (w : ℕ). RowsKept w corridor demand row links) e r, subst (λ (w : ℕ). RowFits w after links) e f)
+module _ (width told : ℕ) (e : told ≡ width) (corridor demand row : List ℕ) (links : ℕ) where
+  pub told-kept : RowsKept width corridor demand row links → RowsKept told corridor demand row links
+  told-kept = subst (λ (w : ℕ). RowsKept w corridor demand row links) (sym e)
 
--- and a is the answer with either
-pub answer-told : (width told k : ℕ) (corridor demand : List ℕ) (downstream : ℕ) (row after : List ℕ) (links : ℕ) (a : Answer) → width ≡ told
-    → a ≡ firstNode (suc links) k (stepFaultIn told corridor demand downstream row after) → a ≡ firstNode (suc links) k (stepFaultIn width corridor demand downstream row after)
-answer-told width told k corridor demand downstream row after links a e h = h ∙ ap (λ (w : ℕ). firstNode (suc links) k (stepFaultIn w corridor demand downstream row after)) (sym e)
+  pub told-sent : SentKept width row links → SentKept told row links
+  told-sent = subst (λ (w : ℕ). SentKept w row links) (sym e)
+
+  pub told-answer : (k downstream : ℕ) (after : List ℕ) (a : Answer) → a ≡ firstNode (suc links) k (stepFaultIn told corridor demand downstream row after)
+      → a ≡ firstNode (suc links) k (stepFaultIn width corridor demand downstream row after)
+  told-answer k downstream after a h = h ∙ ap (λ (w : ℕ). firstNode (suc links) k (stepFaultIn w corridor demand downstream row after)) e
+
+  pub told-plan : (downstream : ℕ) (out : List ℕ) → out ≡ planRow told corridor links demand downstream row → out ≡ planRow width corridor links demand downstream row
+  told-plan downstream out h = h ∙ ap (λ (w : ℕ). planRow w corridor links demand downstream row) e

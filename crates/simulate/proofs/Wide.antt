@@ -162,3 +162,11 @@ module _ (width told : ℕ) (e : told ≡ width) (corridor demand plan state : L
   pub told-step : (downstream total : ℕ) (row after : List ℕ) → Stepped told corridor links demand downstream plan state row after total
       → Stepped width corridor links demand downstream plan state row after total
   told-step downstream total row after s = subst (λ (w : ℕ). Stepped w corridor links demand downstream plan state row after total) e s
+
+-- and so are the vehicles and queues of a row
+module _ (width told : ℕ) (e : told ≡ width) (row : List ℕ) (links : ℕ) where
+  pub told-fits : RowFits width row links → RowFits told row links
+  told-fits = subst (λ (w : ℕ). RowFits w row links) (sym e)
+
+  pub told-cost : (total : ℕ) → (total ≡ rowCost told links row) × (total ≤ 558345748350) → (total ≡ rowCost width links row) × (total ≤ 558345748350)
+  told-cost total c = (c .0 ∙ ap (λ (w : ℕ). rowCost w links row) e, c .1)

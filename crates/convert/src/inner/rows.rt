@@ -239,7 +239,17 @@ fn step_wide(
     let mut next_room = [0u32; 260];
     let here = &mut room[..small];
     let next = &mut next_room[..small];
-    step_in(k, corridor, links, demand, downstream, row, after, here, next)
+    step_in(
+        k,
+        corridor,
+        links,
+        demand,
+        downstream,
+        row,
+        after,
+        here,
+        next,
+    )
 }
 
 // The first node of step k with one of refusals 8 to 12, in the record's rows before and after the step.

@@ -170,7 +170,7 @@ fn node_cost(row: &[u32], width: usize, i: usize) -> u64
 }
 
 // The vehicles and queues of a row.
-pub fn row_cost(links: usize, row: &[u32], width: usize) -> u64
+fn nodes_cost(links: usize, row: &[u32], width: usize) -> u64
     requires { ⌜ (RowFits width (now row) links) × Width width × (links ≤ 64) ⌝ }
     ensures { λ r. ⌜ (r ≡ rowCost width links (now (row .entry))) × (r ≤ 558345748350) ⌝ }
 {
@@ -182,6 +182,17 @@ pub fn row_cost(links: usize, row: &[u32], width: usize) -> u64
         i += 1;
     }
     total
+}
+
+// The same, with the width as a number that the compiler has.
+pub fn row_cost(links: usize, row: &[u32], width: usize) -> u64
+    requires { ⌜ (RowFits width (now row) links) × Width width × (links ≤ 64) ⌝ }
+    ensures { λ r. ⌜ (r ≡ rowCost width links (now (row .entry))) × (r ≤ 558345748350) ⌝ }
+{
+    if width > 4 {
+        return nodes_cost(links, row, 5);
+    }
+    nodes_cost(links, row, 4)
 }
 
 // One step: the record's row of the state, then the next state in its place. It gives the next state's vehicles and queues. Its callers say 4 for

@@ -13,7 +13,7 @@ step-nodes-requires c κs =
     let s = c .before .before .before .before .before .before .before .before .narrow-row .ensures in
     let t = c .before .before .before .before .narrow-row2 .ensures in
     let n = k .pre .0 .corridorFits .first in (
-      small-kept _ _ (k .args .downstream .0) _ _ _ _ _ n s t (k .pre .0),
+      small-kept _ _ (k .args .downstream .0) _ _ _ n s (k .pre .0),
       (narrow-fits _ _ _ t, k .pre .1 .1),
     )
 
@@ -33,13 +33,13 @@ exits-row-requires c κs =
 returns : tie.Need-returns
 returns c =
     let k = c .before .before .before .before .before .before .before .before .before .before .before .before .before .before .before .before .before .before .before .before .before in
-    wide-exits _ _ (k .args .downstream .0) _ _ _ _ _ (k .pre .0 .corridorFits .first) (c .before .before .before .before .before .before .before .before .before .before .before .before .before .narrow-row .ensures) (c .before .before .before .before .before .before .before .before .before .narrow-row2 .ensures)
+    wide-exits _ _ (k .args .downstream .0) _ _ _ (k .pre .0 .corridorFits .first) (c .before .before .before .before .before .before .before .before .before .before .before .before .before .narrow-row .ensures) _ _ (c .before .before .before .before .before .before .before .before .before .narrow-row2 .ensures)
     (k .args .k) _ _ _ _ (c .before .before .before .before .step-nodes .ensures) refl (c .before .before .before .exits-due .ensures) (c .before .before .exits-row .ensures) (told-refused (c .before .before .exits-row .result) _ (c .before .is-refused .ensures) (c .if1 .taken))
 
 returns-2 : tie.Need-returns-2
 returns-2 c =
     let k = c .before .before .before .before .before .before .before .before .before .before .before .before .before .before .before .before .before .before .before .before .before in
-    wide-plain _ _ (k .args .downstream .0) _ _ _ _ _ (k .pre .0 .corridorFits .first) (c .before .before .before .before .before .before .before .before .before .before .before .before .before .narrow-row .ensures) (c .before .before .before .before .before .before .before .before .before .narrow-row2 .ensures)
+    wide-plain _ _ (k .args .downstream .0) _ _ _ (k .pre .0 .corridorFits .first) (c .before .before .before .before .before .before .before .before .before .before .before .before .before .narrow-row .ensures) _ _ (c .before .before .before .before .before .before .before .before .before .narrow-row2 .ensures)
     (k .args .k) _ _ _ _ (c .before .before .before .before .step-nodes .ensures) refl (c .before .before .before .exits-due .ensures) (c .before .before .exits-row .ensures) (told-accepted (c .before .before .exits-row .result) _ (c .before .is-refused .ensures) (c .if1 .left))
 
 pub step-in-spec : {M : Type 1} → statement M
