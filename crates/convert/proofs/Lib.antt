@@ -5,6 +5,7 @@ pub mod Plans
 pub mod Records
 pub mod Rows
 pub mod Steps
+pub mod Ends
 pub mod Exits
 pub mod Settings
 pub mod Answers

@@ -1,6 +1,6 @@
 // The checker on the rows of one step: the first node of a row with refusal 7, and of a step with one of 8 to 12.
 ghost use mathlib.Core.Path.{_≡_};
-ghost use Prim.Native.Nat.{ℕ, suc, _+_, _*_, _≤_};
+ghost use Prim.Native.Nat.{ℕ, suc, _+_, _*_, _≤_, _<_};
 ghost use lib.ListN.{getD};
 ghost use Rattle.tables.specs.Answer.{refusal};
 ghost use Rattle.tables.specs.First.{firstNode};
@@ -39,8 +39,8 @@ fn fixed_answer(
     refusal(number, k as u32, i as u32)
 }
 
-// The first node of the record's row k with refusal 7.
-pub fn fixed_row(
+// The first node of the record's row k with refusal 7, node by node.
+fn fixed_nodes(
     corridor: &[u32],
     links: usize,
     steps: usize,
@@ -62,6 +62,49 @@ pub fn fixed_row(
         i += 1;
     }
     Answer::Accepted
+}
+
+// The same in a row between states 0 and K, where zero is fixed at nodes 0 and N alone.
+fn fixed_ends(
+    corridor: &[u32],
+    links: usize,
+    steps: usize,
+    k: usize,
+    row: &[u32],
+    width: usize,
+) -> Answer
+    requires { ⌜ CorridorFits (now corridor) links ⌝ }
+    requires { ⌜ (k ≤ 1440) × RowFits width (now row) links × Width width ⌝ }
+    requires { ⌜ (0 < k) × (k < steps) ⌝ }
+    ensures { λ r. ⌜ r ≡ firstNode (suc links) k (fixedFaultIn width (now (corridor .entry)) links steps k (now (row .entry))) ⌝ }
+{
+    let answer = fixed_answer(corridor, links, steps, k, row, width, 0);
+    if is_refused(answer) {
+        return answer;
+    }
+    fixed_answer(corridor, links, steps, k, row, width, links)
+}
+
+// The first node of the record's row k with refusal 7.
+pub fn fixed_row(
+    corridor: &[u32],
+    links: usize,
+    steps: usize,
+    k: usize,
+    row: &[u32],
+    width: usize,
+) -> Answer
+    requires { ⌜ CorridorFits (now corridor) links ⌝ }
+    requires { ⌜ (k ≤ 1440) × RowFits width (now row) links × Width width ⌝ }
+    ensures { λ r. ⌜ r ≡ firstNode (suc links) k (fixedFaultIn width (now (corridor .entry)) links steps k (now (row .entry))) ⌝ }
+{
+    if k == 0 {
+        return fixed_nodes(corridor, links, steps, k, row, width);
+    }
+    if k < steps {
+        return fixed_ends(corridor, links, steps, k, row, width);
+    }
+    fixed_nodes(corridor, links, steps, k, row, width)
 }
 
 // One of refusals 8 to 12 at node i of step k, whose link gains `gained`.

@@ -7,8 +7,8 @@ use Rattle.tables.proofs.Sets.{scans}
 use Rattle.lists.proofs.Rows.{node-among}
 use Rattle.lists.proofs.Scans.{nodes-stop, nodes-ended}
 use Rattle.convert.specs.Rows.{fixedFaultIn}
-use Rattle.convert.proofs.inner.rows.fixed_row.Statement.{statement}
-use Rattle.convert.proofs.inner.rows.fixed_row.Tie as tie
+use Rattle.convert.proofs.inner.rows.fixed_nodes.Statement.{statement}
+use Rattle.convert.proofs.inner.rows.fixed_nodes.Tie as tie
 
 abbrev Inv-loop : tie.InvT-loop
 Inv-loop corridor links steps k row width nodes i₀ i = Passed i nodes (λ j. refusal (fixedFaultIn width corridor links steps k row j) k j)
@@ -16,8 +16,8 @@ Inv-loop corridor links steps k row width nodes i₀ i = Passed i nodes (λ j. r
 abbrev μ-loop : tie.MeasureT-loop
 μ-loop corridor links steps k row width nodes i₀ i = nodes - i
 
-pub fixed-row-spec : {M : Type 1} → statement M
-fixed-row-spec =
+pub fixed-nodes-spec : {M : Type 1} → statement M
+fixed-nodes-spec =
     tie.close
     (tie.spec
     Inv-loop
