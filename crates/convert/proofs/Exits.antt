@@ -6,7 +6,7 @@ use mathlib.Core.Path.{_≡_, refl, sym, ap, ap₂, subst, _∙_}
 use native.Mathlib.Numerals.{add-one}
 use native.Mathlib.Omega.{arith}
 use lib.Dec.{ltb}
-use lib.ListN.{length, getD}
+use lib.ListN.{getD}
 use Rattle.tables.specs.declared.Answer.{Answer}
 use Rattle.tables.specs.declared.Answer.the-variants.{Accepted, Refused}
 use Rattle.tables.specs.Answer.{orElse, refusal, unless}
@@ -25,9 +25,8 @@ use Rattle.road.proofs.Same.{junction-same, next-same}
 use Rattle.settings.specs.Setting.{settingFor, rateIn, limitIn}
 use Rattle.faults.specs.Records.{exitKept, stepFault, firstFault, joinFault}
 use Rattle.faults.proofs.Records.{step-joined}
-use Rattle.lists.specs.Words.{linksOf, Width, nodeAt, exitSaid}
+use Rattle.lists.specs.Words.{linksOf, nodeAt, exitSaid}
 use Rattle.lists.specs.Rows.{stateIn, flowsIn, exitIn, stepRoad}
-use Rattle.lists.specs.Fits.{RowFits}
 use Rattle.simulate.specs.Rows.{narrowRow}
 use Rattle.simulate.proofs.Wide.{width-four, narrow-fits, narrow-state, narrow-flows}
 use Rattle.convert.specs.Rows.{stepFaultIn, exitFaultIn, exitsDue, settingIn, settingWord, planRow, NodeKept, RowsKept, SentKept}

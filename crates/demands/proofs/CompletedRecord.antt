@@ -1,40 +1,34 @@
 -- A record of kind 3 and the one of kind 7 with the right exits are proved to do the same: they tell one trace, and the exits are as each test asks.
 use Prim.Native.Nat.{ℕ, zero, suc, _+_, _*_, _≤_, _<_}
-use mathlib.Core.Bool.{Bool, true, false, _&&_, cond}
-use mathlib.Core.List.{List, [], _∷_, _++_}
+use mathlib.Core.Bool.{Bool, true, _&&_}
+use mathlib.Core.List.{List, [], _∷_}
 use mathlib.Core.Logic.{⊎-elim}
-use mathlib.Core.Path.{_≡_, refl, sym, ap, ap₂, subst, _∙_}
+use mathlib.Core.Path.{_≡_, refl, sym, ap, ap₂, _∙_}
 use native.Mathlib.Nat.{add-zero}
 use native.Mathlib.Omega.{arith}
 use borrow.Author.Tests.{lt-ltb, le-ltb, eq-eqb}
-use lib.Dec.{eqb, ltb}
+use lib.Dec.{eqb}
 use lib.ListN.{length, getD, length-append, List·getD-append}
 use lib.Seq.{getD-append-add}
-use Rattle.tables.specs.declared.Answer.{Answer}
-use Rattle.tables.specs.declared.Answer.the-variants.{Accepted}
 use Rattle.tables.specs.Answer.{orElse, refusal, sized, left}
-use Rattle.tables.specs.First.{firstPlace}
 use Rattle.tables.specs.Grid.{grid, place}
-use Rattle.tables.proofs.Answers.{orElse-accepts}
 use Rattle.tables.proofs.First.{firstPlace-same}
 use Rattle.tables.proofs.Grid.{place-fits, grid-length, grid-at}
 use Rattle.tables.proofs.Numbers.{le-or-lt}
 use Rattle.tables.proofs.Tests.{and-iff}
-use Rattle.road.specs.declared.Exit.{Exit}
-use Rattle.road.specs.declared.Exit.the-variants.{Unsaid, Said}
-use Rattle.road.specs.Corridor.{NodeState, Flows, Road, Trace, nodes}
-use Rattle.road.specs.Step.{Junction, exit}
-use Rattle.road.specs.Run.{junction, next, cost}
+use Rattle.road.specs.declared.Exit.the-variants.{Unsaid}
+use Rattle.road.specs.Corridor.{Road, Trace, nodes}
+use Rattle.road.specs.Step.{exit}
+use Rattle.road.specs.Run.{junction, next}
 use Rattle.road.specs.Limits.{Limits}
 use Rattle.road.proofs.Rules.{state-eq, flows-eq, exit-unsplit}
-use Rattle.road.proofs.Same.{SameSetting, SameTraces, junction-same, next-same, cost-same}
-use Rattle.settings.specs.declared.Setting.{Setting}
+use Rattle.road.proofs.Same.{SameTraces, junction-same, next-same, cost-same}
 use Rattle.settings.specs.Setting.{settingFor, rateIn, limitIn}
 use Rattle.faults.specs.Records.{exitKept, fixedFault, stepFault, totalFault}
 use Rattle.faults.proofs.Records.{NoExit, fixed-unsaid, step-unsaid}
-use Rattle.lists.specs.Words.{linksOf, stepsOf, roadOf, planWords, Width, traceOf, exitSaid, exitsOf, traceLength, planLength, recordLength, recordWidth, widthOf}
+use Rattle.lists.specs.Words.{linksOf, stepsOf, roadOf, planWords, Width, traceOf, exitSaid, exitsOf, traceLength, planLength, recordLength, widthOf}
 use Rattle.lists.specs.Refusals.{recordSized, sizes, ranges}
-use Rattle.lists.proofs.Limits.{sized-iff, sizes-iff, ranges-iff}
+use Rattle.lists.proofs.Limits.{sizes-iff, ranges-iff}
 use Rattle.lists.proofs.Sizes.{width-is, record-sized-iff}
 use Rattle.lists.proofs.Words.{plan-same}
 use Rattle.convert.specs.Refusals.{costFault, fixedAt, stepAt, judged}

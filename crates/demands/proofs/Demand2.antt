@@ -5,7 +5,7 @@ use mathlib.Core.Path.{_≡_, sym, ap, subst, _∙_}
 use native.Mathlib.Nat.{le-of-lt}
 use native.Mathlib.Omega.{arith}
 use Rattle.tables.specs.Grid.{place}
-use Rattle.road.specs.Corridor.{Road, Plan, Flows, nodes}
+use Rattle.road.specs.Corridor.{Road, Plan, Flows}
 use Rattle.road.specs.Step.{exit, through}
 use Rattle.road.specs.Run.{noFlow, run}
 use Rattle.road.proofs.Rules.{through-exit, exit-of-none}

@@ -3,7 +3,7 @@ use Prim.Native.Nat.{ℕ, zero, suc, _≤_, _<_, _-_}
 use mathlib.Core.Bool.{Bool, true, _&&_}
 use mathlib.Core.List.{List}
 use mathlib.Core.Logic.{⊎-elim}
-use mathlib.Core.Path.{_≡_, refl, sym, ap, ap₂, subst, _∙_}
+use mathlib.Core.Path.{_≡_, refl, sym, ap, ap₂, _∙_}
 use native.Mathlib.Nat.{add-zero}
 use native.Mathlib.Omega.{arith}
 use borrow.Author.Tests.{lt-ltb, le-ltb}
@@ -16,24 +16,22 @@ use Rattle.tables.specs.Grid.{place}
 use Rattle.tables.proofs.Answers.{orElse-accepts}
 use Rattle.tables.proofs.Numbers.{le-or-lt}
 use Rattle.tables.proofs.Tests.{and-iff}
-use Rattle.road.specs.Corridor.{Flows, Road, Plan, Trace, nodes}
-use Rattle.road.specs.Step.{exit, through}
-use Rattle.road.specs.Run.{noFlow, run, cost}
+use Rattle.road.specs.Corridor.{Flows, Road, Trace, nodes}
+use Rattle.road.specs.Step.{exit}
+use Rattle.road.specs.Run.{noFlow, run}
 use Rattle.road.proofs.Rules.{exit-of-none}
-use Rattle.road.proofs.Runs.{run-flows, run-last}
+use Rattle.road.proofs.Runs.{run-last}
 use Rattle.road.proofs.Zeros.{run-last-exit, run-entry-exit, run-end-exit}
-use Rattle.lists.specs.Words.{linksOf, stepsOf, roadOf, planOf, planWords, Width, traceOf, exitsOf, exitAt, nodeWord, traceWord, recordWords, traceLength, planLength, widthOf}
+use Rattle.lists.specs.Words.{linksOf, stepsOf, roadOf, planOf, planWords, Width, traceOf, exitAt, nodeWord, traceWord, recordWords, traceLength, planLength, widthOf}
 use Rattle.lists.specs.Refusals.{recordSized, sizes, ranges, bounds, planBounds, limits}
 use Rattle.lists.proofs.Limits.{sized-iff}
 use Rattle.lists.proofs.Sizes.{record-wide}
-use Rattle.lists.proofs.Words.{CostWords, record-at, record-read, record-cost, record-is, right-said}
+use Rattle.lists.proofs.Words.{record-at, record-read, record-cost, record-is, right-said}
 use Rattle.simulate.specs.Simulate.{simulated}
-use Rattle.convert.specs.Convert.{planFor, convertedBy, converted, normalForm, checkAnswer, normalRefusal, normalAnswer, normalLeft}
+use Rattle.convert.specs.Convert.{planFor, convertedBy, normalForm, normalRefusal, normalAnswer, normalLeft}
 use Rattle.convert.specs.Refusals.{judged}
 use Rattle.convert.proofs.Normal.{simulated-width}
 use Rattle.files.proofs.Turns.{second-same}
-use Rattle.demands.specs.Demand2.{exitWord}
-use Rattle.demands.specs.Demand3.{recordedFlows}
 use Rattle.demands.specs.Completed.{completedExit, completedRecordWord, completedRecord}
 use Rattle.demands.specs.Exits.{Exits, EitherKind}
 use Rattle.demands.proofs.Demand2.{exit-at, rest-of}

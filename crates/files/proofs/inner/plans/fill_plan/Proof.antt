@@ -1,5 +1,4 @@
 -- The corridor's words are unpacked, each row is put, and the blocks are sealed.
-use native.Mathlib.Omega.{arith}
 use borrow.Author.Needs.{needs}
 use Rattle.files.proofs.Contents.{list-kept}
 use Rattle.files.proofs.Plans.{seal-fits, plan-sealed}

@@ -1,5 +1,4 @@
 -- The first scan that refuses decides.
-use mathlib.Core.Path.{refl}
 use borrow.Author.Needs.{needs}
 use Rattle.tables.proofs.Answers.{told-refused, told-accepted}
 use Rattle.files.proofs.Contents.{files-fixed, files-steps, files-cost}

@@ -1,7 +1,6 @@
 -- The row starts where the record's rows before it end, and is as long as the list that is lent.
-use Prim.Native.Nat.{ℕ, suc, _*_}
+use Prim.Native.Nat.{ℕ, _*_}
 use mathlib.Core.Path.{_≡_, ap, _∙_}
-use native.Mathlib.Omega.{arith}
 use borrow.Author.Needs.{needs}
 use Rattle.files.proofs.Rows.{unpacked, state-holds}
 use Rattle.files.proofs.inner.unpacked.state_row.Statement.{statement}
