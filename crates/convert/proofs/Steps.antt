@@ -15,15 +15,14 @@ use Rattle.road.specs.declared.Junction as junctions
 use Rattle.road.specs.declared.NodeState as states
 use Rattle.road.specs.declared.Flows as flows
 use Rattle.road.specs.Corridor.{NodeState, Road, Flows}
-use Rattle.road.specs.Step.{Junction, sending, through, outflow, moved}
+use Rattle.road.specs.Step.{Junction, outflow, moved}
 use Rattle.road.specs.Run.{junction, inflow, next}
-use Rattle.road.specs.Values.{linkOf, stateOf, junctionOf, flowsOf}
+use Rattle.road.specs.Values.{stateOf, junctionOf, flowsOf}
 use Rattle.road.proofs.Rules.{sending-le, through-le}
-use Rattle.settings.specs.Share.{Permitted}
 use Rattle.lists.specs.Words.{nodeAt}
 use Rattle.lists.specs.Rows.{stateIn, flowsIn, exitIn, stepRoad}
 use Rattle.lists.specs.Fits.{JamKept}
-use Rattle.faults.specs.Records.{sameState, fixedFault, stepFault}
+use Rattle.faults.specs.Records.{fixedFault, stepFault}
 use Rattle.convert.specs.Rows.{bareRoad, fixedFaultIn, stepFaultIn, NodeKept, RowsKept}
 use Rattle.faults.proofs.Records.{step-iff}
 

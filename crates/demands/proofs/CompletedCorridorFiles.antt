@@ -26,9 +26,7 @@ use Rattle.files.proofs.Answers.{files-fit}
 use Rattle.files.proofs.Contents.{own-links}
 use Rattle.demands.specs.Completed.{completedWord, completedCorridor, SameOnFiles}
 use Rattle.demands.proofs.AlikeFiles.{of-files, alike-files, file-holds, file-answers}
-use Rattle.demands.proofs.Completed.{demands-alike}
-use Rattle.demands.proofs.CompletedFiles.{demands-files}
-use Rattle.demands.proofs.CompletedCorridor.{completed-length, corridor-alike, corridor-checks, corridor-plans}
+use Rattle.demands.proofs.CompletedCorridor.{completed-length, corridor-checks, corridor-plans}
 
 word-fits : (corridor : List ℕ) → Words corridor → (i q : ℕ) → completedWord corridor i q < 4294967296
 unfolding completedWord
