@@ -246,8 +246,8 @@ fn widen_row(from: &[u32], links: usize, demand: &[u32], to: &mut [u32])
     let mut i: usize = 0;
     while i < nodes {
         let flows = words::flows_at(from, 4, i);
-        let exit = road::inner::exit(flows.main, words::split_at(demand, i));
-        put_node(to, 5, i, words::state_at(from, 4, i), flows, exit);
+        let leaves = road::inner::exit(flows.main, words::split_at(demand, i));
+        put_node(to, 5, i, words::state_at(from, 4, i), flows, leaves);
         i += 1;
     }
 }

@@ -22,7 +22,7 @@ exits-row-requires c κs =
     let k = c .before .before .before .before .before .before .before .before .before .before .before .before .before .before .before .before .before .before in (
       (
         k .pre .0 .demandFits,
-        k .pre .0 .rowFits,
+        search needs,
         k .pre .1 .1,
         k .pre .0 .corridorFits .few,
         due-least _ (k .args .k) _ _ _ _ _ _ _ _ (c .before .step-nodes .ensures) (c .exits-due .ensures) refl,
