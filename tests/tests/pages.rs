@@ -71,6 +71,43 @@ fn worked_corridor_of_kind_ten_is_what_the_calls_compute() {
     assert_out_of_link_2("drop", "demands", [80, 220, 390]);
 }
 
+/// The record of kind 7 that the page lists, as simulator and normal form write it, with the plan
+/// that the normal form leaves; and what the checker says of it with another exit.
+fn assert_exits(corridor: &str, demands: &str, plan: &[u32], record: &str) -> Vec<u32> {
+    let [corridor, demands, record] = [corridor, demands, record].map(words);
+    let mut normal = vec![u32::MAX; plan.len()];
+    for side in [&Quick as &dyn WordCalls, &Host] {
+        let mut work = vec![u32::MAX; record.len()];
+        assert_eq!(side.simulate(&corridor, &demands, plan, &mut work), 0);
+        assert_eq!(work, record);
+        work.fill(u32::MAX);
+        normal.fill(u32::MAX);
+        assert_eq!(side.normal(&corridor, &demands, plan, &mut work, &mut normal), 0);
+        assert_eq!(work, record);
+        for (place, number, node) in [(9, 11, 1), (14, 7, 2)] {
+            let mut other = record.clone();
+            other[place] += 1;
+            assert_eq!(side.check(&corridor, &demands, &other), node * 256 + number);
+        }
+    }
+    normal
+}
+
+/// Where a quarter of what leaves link 1 takes the off-ramp.
+#[test]
+fn worked_exits_are_what_the_calls_compute() {
+    assert_eq!(assert_exits("corridor", "demands", &words("plan"), "exits"), words("normal form"));
+}
+
+/// With a lane merge at the end of link 2, a junction past it that queues, and a rate of 26 at node
+/// 1.
+#[test]
+fn worked_record_of_all_later_kinds_is_what_the_calls_compute() {
+    let mut plan = words("plan");
+    plan[2] = 26;
+    assert_exits("drop", "downstream", &plan, "rest");
+}
+
 #[test]
 fn printed_lines_are_what_the_program_prints() {
     let printed = passages(&text_of("docs/MODEL.md")).into_iter().filter_map(|passage| {
