@@ -20,10 +20,11 @@ use Rattle.lists.specs.Fits.{CorridorFits}
 use Rattle.lists.specs.Refusals.{recordSized, sizes, ranges}
 use Rattle.lists.proofs.Limits.{Sizes, sizes-iff, sized-iff, sized-refuses, ranges-iff}
 use Rattle.lists.proofs.Sizes.{corridor-fits, demands-fit, record-wide, record-sized-iff, width-told}
-use Rattle.simulate.specs.Rows.{rowCost}
+use Rattle.simulate_rows.specs.Rows.{rowCost}
 use Rattle.convert.specs.Refusals.{costFault, judged}
 use Rattle.convert.specs.Convert.{recordRefusal, checkAnswer, convertAnswer}
-use Rattle.convert.specs.Rows.{bareRoad, fixedRefusal, stepsRefusal, stateCostAt, Ready}
+use Rattle.convert_rows.specs.Rows.{bareRoad}
+use Rattle.convert.specs.Rows.{fixedRefusal, stepsRefusal, stateCostAt, Ready}
 use Rattle.convert.proofs.Rows.{TraceRow, trace-row}
 
 -- a record's row of w words that begins at `at`, as a call gave it, lies within the record

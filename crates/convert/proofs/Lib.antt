@@ -4,9 +4,6 @@ pub mod Runs
 pub mod Plans
 pub mod Records
 pub mod Rows
-pub mod Steps
-pub mod Ends
-pub mod Exits
 pub mod Settings
 pub mod Answers
 pub mod Normal

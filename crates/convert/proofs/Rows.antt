@@ -32,7 +32,8 @@ use Rattle.simulate.proofs.Steps.{DemandRow, demand-row, step-junction, step-ne
 use Rattle.faults.specs.Records.{fixedFault, stepFault}
 use Rattle.convert.specs.Refusals.{fixedAt, stepAt, judged}
 use Rattle.convert.specs.Convert.{settingAt}
-use Rattle.convert.specs.Rows.{bareRoad, fixedFaultIn, fixedRowRefusal, fixedRefusal, stepFaultIn, stepRefusal, stepsRefusal, settingIn, NodeKept, RowsKept, SentKept, Ready}
+use Rattle.convert_rows.specs.Rows.{bareRoad, fixedFaultIn, stepFaultIn, settingIn, NodeKept, RowsKept, SentKept}
+use Rattle.convert.specs.Rows.{fixedRowRefusal, fixedRefusal, stepRefusal, stepsRefusal, Ready}
 use Rattle.convert.proofs.Facts.{fixed-all, steps-all, judged-iff}
 use Rattle.convert.proofs.Kept.{jam-kept, queue-kept}
 use Rattle.convert.proofs.Plans.{trace-jam}

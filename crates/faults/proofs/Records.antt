@@ -14,7 +14,7 @@ use Rattle.road.specs.declared.Flows as flows
 use Rattle.road.specs.Corridor.{NodeState, Road, Flows}
 use Rattle.road.specs.Step.{Junction, sending, exit, through, outflow}
 use Rattle.road.specs.Run.{noFlow}
-use Rattle.road.specs.Values.{linkOf, stateOf, junctionOf, flowsOf}
+use Rattle.road.specs.Values.{linkOf, junctionOf, flowsOf}
 use Rattle.road.proofs.Rules.{flows-eq, state-eq, sending-le}
 use Rattle.settings.specs.Share.{Permitted}
 use Rattle.faults.specs.Lists.{implies}

@@ -19,7 +19,8 @@ use Rattle.lists.proofs.Limits.{CorridorSized, DemandsSized, sizes-iff}
 use Rattle.lists.proofs.Corridors.{sized-words}
 use Rattle.lists.proofs.Sizes.{record-sized-iff, width-is}
 use Rattle.convert.specs.Refusals.{costFault, judged}
-use Rattle.convert.specs.Rows.{bareRoad, fixedRefusal, stepsRefusal, Ready}
+use Rattle.convert_rows.specs.Rows.{bareRoad}
+use Rattle.convert.specs.Rows.{fixedRefusal, stepsRefusal, Ready}
 use Rattle.convert.proofs.Answers.{ready, ready-as, cost-told, judged-fixed, judged-steps, judged-cost}
 use Rattle.payload.specs.File.{blocksFor, payloadWord, payloadPart}
 use Rattle.payload.proofs.Payloads.{payload-all}

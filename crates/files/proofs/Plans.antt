@@ -10,7 +10,8 @@ use Rattle.tables.proofs.Numbers.{row-fits}
 use Rattle.tables.proofs.Tabulate.{tabulate-length}
 use Rattle.lists.specs.Words.{Width, planLength}
 use Rattle.convert.specs.Convert.{convertedBy}
-use Rattle.convert.specs.Rows.{planRow, settingWord, Ready}
+use Rattle.convert_rows.specs.Rows.{planRow, settingWord}
+use Rattle.convert.specs.Rows.{Ready}
 use Rattle.convert.proofs.Settings.{PlanRows, plan-begun, plan-more, plan-ended}
 use Rattle.payload.specs.File.{blocksFor, payloadWord, payloadOf, payloadPart, putPayload, fileOf}
 use Rattle.payload.specs.Word.{Words}

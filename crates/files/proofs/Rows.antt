@@ -15,11 +15,12 @@ use Rattle.lists.specs.Words.{linksOf, free, roadOf, Width, traceOf, exitsOf, r
 use Rattle.lists.specs.Fits.{RowFits}
 use Rattle.lists.specs.Scans.{nodeFaultIn, nodeFaultAt}
 use Rattle.lists.proofs.Scans.{row-told}
-use Rattle.simulate.specs.Rows.{rowCost}
+use Rattle.simulate_rows.specs.Rows.{rowCost}
 use Rattle.simulate.proofs.Steps.{DemandRow}
 use Rattle.convert.specs.Refusals.{judged}
 use Rattle.convert.specs.Convert.{settingAt}
-use Rattle.convert.specs.Rows.{fixedFaultIn, stepFaultIn, fixedRowRefusal, fixedRefusal, stepRefusal, stepsRefusal, stateCostAt, settingIn, RowsKept, SentKept, Ready}
+use Rattle.convert_rows.specs.Rows.{fixedFaultIn, stepFaultIn, settingIn, RowsKept, SentKept}
+use Rattle.convert.specs.Rows.{fixedRowRefusal, fixedRefusal, stepRefusal, stepsRefusal, stateCostAt, Ready}
 use Rattle.convert.proofs.Rows.{TraceRow, fixed-row-told, demand-lent, trace-lent, step-told, step-kept, plan-kept, plan-sent, row-setting}
 use Rattle.convert.proofs.Answers.{row-cost-told}
 use Rattle.payload.specs.File.{blocksFor, payloadPart}

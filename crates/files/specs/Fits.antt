@@ -9,7 +9,8 @@ use Rattle.tables.specs.Answer.{orElse}
 use Rattle.lists.specs.Words.{downstreamWord, roadOf, recordLength}
 use Rattle.lists.specs.Refusals.{ranges}
 use Rattle.convert.specs.Refusals.{judged}
-use Rattle.convert.specs.Rows.{planRow, Ready}
+use Rattle.convert_rows.specs.Rows.{planRow}
+use Rattle.convert.specs.Rows.{Ready}
 use Rattle.payload.specs.File.{blocksFor, payloadWord, payloadPart}
 use Rattle.block.specs.Kinds.{Told}
 use Rattle.files.specs.Files.{corridorCount, corridorIn, demandsCount, demandsIn, fileWidth, recordIn}

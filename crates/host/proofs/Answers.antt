@@ -1,14 +1,14 @@
 -- Every answer of the calls fits one number: N, K and the blocks of a file are few wherever a place is named.
-use Prim.Native.Nat.{ℕ, zero, suc, _+_, _*_, _/_, _%_, _≤_, min}
+use Prim.Native.Nat.{ℕ, zero, suc, _*_, _/_, _%_, _≤_, min}
 use mathlib.Core.Bool.{Bool, true, false, _&&_}
 use mathlib.Core.List.{List}
 use mathlib.Core.Path.{_≡_, refl, sym, ap, subst, _∙_}
 use native.Mathlib.Omega.{arith}
 use borrow.Author.Needs.{needs}
 use lib.Dec.{leb, eqb}
-use lib.ListN.{length, getD}
+use lib.ListN.{length}
 use Rattle.tables.specs.declared.Answer.{Answer}
-use Rattle.tables.specs.Answer.{orElse, unless, hostNumber, sized, Small}
+use Rattle.tables.specs.Answer.{orElse, hostNumber, sized, Small}
 use Rattle.tables.specs.First.{firstPlace}
 use Rattle.tables.proofs.Answers.{small-refusal, small-orElse, small-unless, orElse-assoc}
 use Rattle.tables.proofs.First.{small-node, small-place}

@@ -1,5 +1,5 @@
 -- Laws of a step's rows: a node's words lie in them, and what the code reads of the next link is the supply of a node.
-use Prim.Native.Nat.{ℕ, suc, _+_, _*_, _≤_, _<_}
+use Prim.Native.Nat.{ℕ, suc, _+_, _≤_, _<_}
 use mathlib.Core.Path.{_≡_, sym, ap, ap₂, _∙_}
 use mathlib.Core.List.{List}
 use native.Mathlib.Numerals.{add-one}

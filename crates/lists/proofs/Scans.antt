@@ -9,7 +9,7 @@ use lib.ListN.{getD, take, drop}
 use Rattle.tables.specs.declared.Answer.{Answer}
 use Rattle.tables.specs.declared.Answer.the-variants.{Accepted}
 use Rattle.tables.specs.Answer.{orElse, refusal}
-use Rattle.tables.specs.First.{first, firstNode, firstPlace}
+use Rattle.tables.specs.First.{first, firstNode}
 use Rattle.tables.specs.Grid.{place}
 use Rattle.tables.proofs.Answers.{Refuses, orElse-assoc, or-else-stop, or-else-next}
 use Rattle.tables.proofs.First.{Passed, passed-stop, passed-ended, first-same, firstPlace-same}

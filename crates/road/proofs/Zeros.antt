@@ -1,5 +1,5 @@
 -- The fixed zeros of a run within limits: n and f of node 0, l and r of node N, and the exits of both and of state K.
-use Prim.Native.Nat.{ℕ, zero, suc, _≤_, _<_}
+use Prim.Native.Nat.{ℕ, zero, suc, _≤_}
 use mathlib.Core.Path.{_≡_, refl, ap}
 use native.Mathlib.Omega.{arith}
 use Rattle.road.specs.Corridor.{NodeState, Road, Plan, Flows}

@@ -17,7 +17,6 @@ use Rattle.road.proofs.Quotients.{share-le, ceiling}
 use Rattle.road.proofs.Rules.{SmallestLimit, some-limit-sends, sending-product, sending-capacity, sending-rises, sending-exact, offer-exact, merge-free, flows-sent, flows-offered, flows-metered, flows-fit}
 use Rattle.settings.specs.declared.Found.{Found}
 use Rattle.settings.specs.declared.Found.the-variants.{Rate, Nothing}
-use Rattle.settings.specs.declared.Setting.{Setting}
 use Rattle.settings.specs.declared.Setting.the-variants.{Full}
 use Rattle.settings.specs.Rate.{rateFor}
 use Rattle.settings.specs.Setting.{heldLimit, settle, settingFor, rateIn, limitIn}

@@ -1,7 +1,4 @@
-pub mod Rows
 pub mod Steps
-pub mod Wide
 pub mod Runs
 pub mod Answers
-pub mod Sets
 pub mod Case

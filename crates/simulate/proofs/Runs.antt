@@ -22,9 +22,9 @@ use Rattle.lists.specs.Words.{linksOf, stepsOf, demandsLength, downstreamWord, 
 use Rattle.lists.specs.Fits.{CorridorFits, DemandsFit, RowFits}
 use Rattle.lists.proofs.Sizes.{width-told}
 use Rattle.lists.proofs.Words.{trace-length}
-use Rattle.simulate.specs.Rows.{rowOf, startRow, flowRow, nextRow, rowCost, StepKept, RowsFit, Stepped}
+use Rattle.simulate_rows.specs.Rows.{rowOf, startRow, flowRow, nextRow, rowCost, StepKept, RowsFit, Stepped}
 use Rattle.simulate.specs.Simulate.{Sound, stateRow, stepRow, ranCost, runCost, runWords, Ran, RanAll, simulated}
-use Rattle.simulate.proofs.Rows.{row-length}
+use Rattle.simulate_rows.proofs.Rows.{row-length}
 use Rattle.simulate.proofs.Steps.{StepRows, step-rows, flow-row-is, next-row-is, step-kept, state-cost-is, start-row-is}
 
 pub record Inside (demands plan : List ℕ) (links at : ℕ) : Type 0 where

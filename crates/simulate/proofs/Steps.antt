@@ -6,7 +6,6 @@ use mathlib.Core.Path.{_≡_, refl, ap, _∙_}
 use native.Mathlib.Omega.{arith}
 use lib.Dec.{ltb}
 use lib.ListN.{getD, take, drop}
-use Rattle.tables.proofs.Grid.{rowWords-same}
 use Rattle.tables.proofs.Part.{part-at}
 use Rattle.tables.proofs.Sum.{sum-same}
 use Rattle.road.specs.Corridor.{NodeState, Flows, Road, Plan}
@@ -16,19 +15,11 @@ use Rattle.road.specs.Limits.{Limits, Bounded}
 use Rattle.road.proofs.Runs.{link-tops, run-jam}
 use Rattle.road.proofs.Same.{junction-same, next-same}
 use Rattle.road.proofs.Sizes.{run-state-fits}
-use Rattle.lists.specs.Words.{Width, linksOf, stepsOf, nodeAt, demandsWord, roadOf, planOf, nodeWord}
+use Rattle.lists.specs.Words.{Width, linksOf, stepsOf, nodeAt, demandsWord, roadOf, planOf}
 use Rattle.lists.specs.Rows.{stateIn, flowsIn, stepRoad}
-use Rattle.simulate.specs.Rows.{rowOf, startRow, rowFlows, rowExit, flowRow, nextRow, rowCost, StepKept}
+use Rattle.simulate_rows.specs.Rows.{startRow, rowFlows, rowExit, flowRow, nextRow, rowCost, StepKept}
 use Rattle.simulate.specs.Simulate.{stateRow, stepRow, ranCost}
-use Rattle.simulate.proofs.Rows.{row-state, row-flows}
-
--- rows with the same states, flows and off-ramp flows at nodes 0..N are one list
-pub row-same : (width links : ℕ) (state after : ℕ → NodeState) (flows other : ℕ → Flows) (off off′ : ℕ → ℕ) → ((i : ℕ) → i ≤ links → state i ≡ after i)
-    → ((i : ℕ) → i ≤ links → flows i ≡ other i) → ((i : ℕ) → i ≤ links → off i ≡ off′ i) → rowOf width links state flows off ≡ rowOf width links after other off′
-unfolding rowOf
-row-same width links state after flows other off off′ s f x =
-    rowWords-same width (suc links) _ _
-    (λ i q h b z. nodeWord (s i (omega arith) z) (f i (omega arith) z) (x i (omega arith) z) q)
+use Rattle.simulate_rows.proofs.Rows.{row-state, row-flows, row-same}
 
 module _ (corridor demands : List ℕ) (k : ℕ) where
   -- row k of the demands, as the code has it

@@ -1,5 +1,5 @@
 -- The simulator: its answer, and the record that it writes.
-use Prim.Native.Nat.{ℕ, suc, _+_, _≤_}
+use Prim.Native.Nat.{ℕ, suc, _≤_}
 use mathlib.Core.Path.{_≡_}
 use mathlib.Core.Bool.{Bool, _&&_}
 use mathlib.Core.List.{List}
@@ -14,7 +14,7 @@ use Rattle.road.specs.Run.{planFlows, stateAt, run, stateCost, cost}
 use Rattle.lists.specs.Words.{linksOf, stepsOf, demandsWord, roadOf, planOf, traceWords, recordWords, demandsLength, planLength, widthOf}
 use Rattle.lists.specs.Fits.{CorridorFits}
 use Rattle.lists.specs.Refusals.{recordSized, sizes, ranges, planBounds}
-use Rattle.simulate.specs.Rows.{rowOf, restRow}
+use Rattle.simulate_rows.specs.Rows.{rowOf, restRow}
 
 -- 1. N, K and all lengths are right; `room` is the length of the lent record
 unfoldable pub simulateSizes : List ℕ → List ℕ → List ℕ → ℕ → Bool

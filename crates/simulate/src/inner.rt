@@ -1,4 +1,3 @@
-// One step on its rows, the run of all steps, and what refuses them.
+// The run of all steps, and what refuses it.
 pub mod answer;
-pub mod rows;
 pub mod run;

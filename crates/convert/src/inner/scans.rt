@@ -13,8 +13,8 @@ ghost use Rattle.lists.specs.Fits.{CorridorFits};
 ghost use Rattle.lists.specs.Refusals.{recordSized, sizes};
 ghost use Rattle.convert.specs.Refusals.{costFault, judged};
 ghost use Rattle.convert.specs.Convert.{recordRefusal};
-ghost use Rattle.convert.specs.Rows.{bareRoad, fixedRowRefusal, fixedRefusal, stepRefusal, stepsRefusal, stateCostAt, Ready};
-use crate::inner::rows;
+ghost use Rattle.convert_rows.specs.Rows.{bareRoad};
+ghost use Rattle.convert.specs.Rows.{fixedRowRefusal, fixedRefusal, stepRefusal, stepsRefusal, stateCostAt, Ready};
 use faults::inner::records;
 use lists::inner::scans;
 use lists::inner::words;
@@ -70,7 +70,7 @@ fn fixed_at(
     let wide = scans::state_words(links, width);
     let at = scans::row_at(k, wide, steps + 1);
     let end = at + wide;
-    rows::fixed_row(corridor, links, steps, k, &words[at..end], width)
+    convert_rows::inner::rows::fixed_row(corridor, links, steps, k, &words[at..end], width)
 }
 
 // The first state and node with refusal 7.
@@ -121,7 +121,7 @@ fn step_at(
     let to = from + wide;
     let next = scans::row_at(k + 1, wide, steps + 1);
     let last = next + wide;
-    rows::step_row(
+    convert_rows::inner::rows::step_row(
         k,
         corridor,
         links,
@@ -165,7 +165,7 @@ fn cost_at(links: usize, steps: usize, words: &[u32], width: usize, k: usize) ->
     let wide = scans::state_words(links, width);
     let at = scans::row_at(k + 1, wide, steps + 1);
     let end = at + wide;
-    simulate::inner::rows::row_cost(links, &words[at..end], width)
+    simulate_rows::inner::row_cost(links, &words[at..end], width)
 }
 
 // The cost of states 1..K.

@@ -2,7 +2,7 @@
 ghost use mathlib.Core.Path.{_≡_};
 ghost use Prim.Native.Nat.{_+_, _*_, _<_};
 ghost use lib.ListN.{length};
-ghost use Rattle.lists.specs.Words.{Width, planLength};
+ghost use Rattle.lists.specs.Words.{planLength};
 ghost use Rattle.convert.specs.Convert.{convertedBy};
 ghost use Rattle.payload.specs.File.{payloadOf, putPayload};
 ghost use Rattle.payload.specs.Word.{Words};
@@ -38,7 +38,7 @@ fn put_step(
     let mut plan_room = [0u32; 130];
     let out = &mut plan_room[..narrow];
     let downstream = unpacked::downstream(demands, links, steps, k);
-    convert::inner::plans::plan_row(corridor, links, demand, downstream, row, width, out);
+    convert_rows::inner::plans::plan_row(corridor, links, demand, downstream, row, width, out);
     place::put(plan, scans::row_at(k, narrow, steps), out);
 }
 

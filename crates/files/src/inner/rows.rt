@@ -45,7 +45,7 @@ pub fn fixed_at(
     let mut room = [0u32; 325];
     let row = &mut room[..wide];
     unpacked::state_row(recorded, links, steps, width, k, row);
-    convert::inner::rows::fixed_row(corridor, links, steps, k, row, width)
+    convert_rows::inner::rows::fixed_row(corridor, links, steps, k, row, width)
 }
 
 // The first node of step k with one of refusals 8 to 12, where no step before it has any.
@@ -74,7 +74,7 @@ pub fn step_at(
     let mut after_room = [0u32; 325];
     let after = &mut after_room[..wide];
     unpacked::state_row(recorded, links, steps, width, k + 1, after);
-    convert::inner::rows::step_row(
+    convert_rows::inner::rows::step_row(
         k,
         corridor,
         links,
@@ -95,5 +95,5 @@ pub fn cost_at(links: usize, steps: usize, recorded: &[u8], width: usize, k: usi
     let mut room = [0u32; 325];
     let row = &mut room[..wide];
     unpacked::state_row(recorded, links, steps, width, k + 1, row);
-    simulate::inner::rows::row_cost(links, row, width)
+    simulate_rows::inner::row_cost(links, row, width)
 }

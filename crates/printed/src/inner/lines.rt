@@ -137,7 +137,7 @@ fn setting_of(
     let row = &mut room[..wide];
     unpacked::step_rows(demands, recorded, links, steps, width, k, demand, row);
     let downstream = unpacked::downstream(demands, links, steps, k);
-    convert::inner::plans::setting_at(corridor, links, demand, downstream, row, width, i)
+    convert_rows::inner::plans::setting_at(corridor, links, demand, downstream, row, width, i)
 }
 
 // The line of node i at step k, out of the files.

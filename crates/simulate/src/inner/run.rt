@@ -5,7 +5,6 @@ ghost use lib.ListN.{length};
 ghost use Rattle.lists.specs.Words.{linksOf, stepsOf, Width, traceLength, recordLength, widthOf};
 ghost use Rattle.lists.specs.Fits.{RowFits};
 ghost use Rattle.simulate.specs.Simulate.{Sound, stateRow, runCost, Ran, RanAll, simulated};
-use crate::inner::rows;
 use lists::inner::scans;
 use lists::inner::words;
 
@@ -33,7 +32,7 @@ fn step_at(
     let from = 1 + at;
     let to = from + narrow;
     let downstream = words::downstream_at(demands, links, steps, k);
-    rows::step(
+    simulate_rows::inner::step(
         corridor,
         links,
         &demands[from..to],
@@ -130,7 +129,7 @@ fn run_all(corridor: &[u32], demands: &[u32], plan: &[u32], states: &mut [u32], 
     let wide = scans::state_words(links, width);
     let mut room = [0u32; 325];
     let state = &mut room[..wide];
-    rows::start_row(corridor, links, state, width);
+    simulate_rows::inner::start_row(corridor, links, state, width);
     run_steps(corridor, demands, plan, state, states, width)
 }
 

@@ -1,6 +1,5 @@
 -- The test is the definition's.
 use native.Mathlib.Omega.{arith}
-use borrow.Author.Needs.{needs}
 use Rattle.lists.proofs.Sizes.{told-seven, told-three}
 use Rattle.lists.proofs.inner.words.record_width.Statement.{statement}
 use Rattle.lists.proofs.inner.words.record_width.Tie as tie

@@ -1,0 +1,2 @@
+// Checker and converter on the rows of one step.
+pub mod inner;
