@@ -13,7 +13,7 @@ use Rattle.tables.proofs.Answers.{Refuses, orElse-accepts, or-else-stop, or-els
 use Rattle.tables.proofs.Sum.{Summed, summed-ended, sum-same}
 use Rattle.road.specs.Corridor.{NodeState}
 use Rattle.road.specs.Run.{cost}
-use Rattle.faults.specs.Records.{fixedFault, totalFault}
+use Rattle.record_faults.specs.Records.{fixedFault, totalFault}
 use Rattle.faults.proofs.Tests.{both-hold, eq-holds, told-false}
 use Rattle.lists.specs.Words.{linksOf, stepsOf, roadOf, Width, traceOf, exitsOf, traceLength, planLength, recordLength, recordWidth, widthOf}
 use Rattle.lists.specs.Fits.{CorridorFits}

@@ -14,9 +14,9 @@ use Rattle.tables.proofs.First.{firstPlace-accepts, firstPlace-same}
 use Rattle.road.specs.declared.Exit.{Exit}
 use Rattle.road.specs.Corridor.{Road, Trace, nodes}
 use Rattle.road.specs.Run.{junction, next, cost}
-use Rattle.faults.specs.Records.{exitKept, totalFault}
+use Rattle.record_faults.specs.Records.{exitKept, totalFault}
 use Rattle.faults.proofs.Tests.{eq-holds, both-hold, no-fault}
-use Rattle.faults.proofs.Records.{Fixed, NoExit, fixed-iff, Stepped, queueFault, queue-iff, step-iff, step-queue}
+use Rattle.record_faults.proofs.Records.{Fixed, NoExit, fixed-iff, Stepped, queueFault, queue-iff, step-iff, step-queue}
 use Rattle.lists.specs.Words.{traceOf, exitsOf, exitAt, traceLength}
 use Rattle.lists.proofs.Words.{CostWords}
 use Rattle.convert.specs.Refusals.{costFault, fixedAt, stepAt, judged}

@@ -6,7 +6,7 @@ use Rattle.road.specs.Corridor.{NodeState, Road, Trace}
 use Rattle.road.specs.Run.{junction, next}
 use Rattle.road.specs.Limits.{Limits}
 use Rattle.road.proofs.Runs.{next-jam}
-use Rattle.faults.proofs.Records.{Stepped}
+use Rattle.record_faults.proofs.Records.{Stepped}
 
 module _ (road : Road) (limits : Limits road) (trace : Trace) (start : (i : ℕ) → i ≤ road .links → trace .state 0 i ≡ road .node i .start) where
   pub jam-kept : (k : ℕ) → k ≤ road .steps

@@ -16,7 +16,7 @@ use Rattle.road.proofs.Rules.{exit-of-none}
 use Rattle.road.proofs.Same.{SameTraces, same-traces-back, cost-same}
 use Rattle.road.proofs.Zeros.{run-last-exit, run-entry-exit, run-end-exit}
 use Rattle.settings.specs.Share.{IsSetting}
-use Rattle.faults.specs.Records.{exitKept}
+use Rattle.record_faults.specs.Records.{exitKept}
 use Rattle.lists.specs.Words.{planOf, planWords, Width, traceOf, exitsOf, exitAt, recordWords, recordLength}
 use Rattle.lists.proofs.Words.{CostWords, plan-read, record-cost, record-read, record-exits, record-same, ExitsRight, record-written}
 use Rattle.convert.specs.Convert.{planFor}

@@ -16,7 +16,7 @@ use Rattle.road.proofs.Roads.{SameRoads, withSizes, with-sizes, roads-junction,
 use Rattle.road.proofs.Same.{SameSetting}
 use Rattle.settings.specs.declared.Setting.{Setting}
 use Rattle.settings.specs.Setting.{settingFor, rateIn, limitIn}
-use Rattle.faults.specs.Records.{fixedFault, stepFault}
+use Rattle.record_faults.specs.Records.{fixedFault, stepFault}
 use Rattle.lists.specs.Words.{planWords, traceOf, exitsOf}
 use Rattle.lists.proofs.Words.{plan-same}
 use Rattle.convert.specs.Refusals.{costFault, fixedAt, stepAt, judged}

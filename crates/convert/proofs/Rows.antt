@@ -29,7 +29,7 @@ use Rattle.lists.specs.Words.{linksOf, stepsOf, downstreamWord, nodeAt, roadOf,
 use Rattle.lists.specs.Rows.{stateIn, flowsIn, exitIn, stepRoad}
 use Rattle.lists.specs.Fits.{RowFits}
 use Rattle.simulate.proofs.Steps.{DemandRow, demand-row, step-junction, step-next}
-use Rattle.faults.specs.Records.{fixedFault, stepFault}
+use Rattle.record_faults.specs.Records.{fixedFault, stepFault}
 use Rattle.convert.specs.Refusals.{fixedAt, stepAt, judged}
 use Rattle.convert.specs.Convert.{settingAt}
 use Rattle.convert_rows.specs.Rows.{bareRoad, fixedFaultIn, stepFaultIn, settingIn, NodeKept, RowsKept, SentKept}

@@ -11,7 +11,7 @@ use Rattle.road.proofs.Same.{SameTraces, junction-same, next-same}
 use Rattle.road.proofs.Zeros.{run-entry-vehicles, run-entry-main, run-exit-queue, run-exit-ramp}
 use Rattle.settings.specs.Share.{Permitted}
 use Rattle.settings.proofs.Settings.{reached-permitted}
-use Rattle.faults.proofs.Records.{Fixed, Stepped}
+use Rattle.record_faults.proofs.Records.{Fixed, Stepped}
 use Rattle.convert.proofs.Facts.{Moves}
 
 module _ (road : Road) (limits : Limits road) (plan : Plan) where

@@ -8,7 +8,7 @@ use Rattle.tables.specs.First.{firstPlace}
 use Rattle.road.specs.declared.Exit.{Exit}
 use Rattle.road.specs.Corridor.{Road, Trace, nodes}
 use Rattle.road.specs.Run.{junction, next, cost}
-use Rattle.faults.specs.Records.{fixedFault, stepFault, totalFault}
+use Rattle.record_faults.specs.Records.{fixedFault, stepFault, totalFault}
 use Rattle.lists.specs.Words.{traceOf, exitsOf, traceLength}
 
 -- ---- 13: the record's two last words against the cost as low and high 32 bits

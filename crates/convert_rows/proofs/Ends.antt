@@ -8,7 +8,7 @@ use Rattle.tables.specs.declared.Answer.the-variants.{Accepted}
 use Rattle.tables.specs.Answer.{orElse, refusal}
 use Rattle.tables.specs.First.{first, firstNode}
 use Rattle.tables.proofs.Answers.{Refuses, orElse-right, or-else-stop, or-else-next}
-use Rattle.faults.proofs.Records.{fixed-iff}
+use Rattle.record_faults.proofs.Records.{fixed-iff}
 use Rattle.convert_rows.specs.Rows.{bareRoad, fixedFaultIn}
 
 module _ (k : ℕ) (fault : ℕ → ℕ) where

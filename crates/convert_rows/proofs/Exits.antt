@@ -23,8 +23,8 @@ use Rattle.road.specs.Step.{exit}
 use Rattle.road.specs.Run.{junction, next}
 use Rattle.road.proofs.Same.{junction-same, next-same}
 use Rattle.settings.specs.Setting.{settingFor, rateIn, limitIn}
-use Rattle.faults.specs.Records.{exitKept, stepFault, firstFault, joinFault}
-use Rattle.faults.proofs.Records.{step-joined}
+use Rattle.record_faults.specs.Records.{exitKept, stepFault, firstFault, joinFault}
+use Rattle.record_faults.proofs.Records.{step-joined}
 use Rattle.lists.specs.Words.{linksOf, nodeAt, exitSaid}
 use Rattle.lists.specs.Rows.{stateIn, flowsIn, exitIn, stepRoad}
 use Rattle.simulate_rows.specs.Rows.{narrowRow}

@@ -22,9 +22,9 @@ use Rattle.road.proofs.Rules.{sending-le, through-le}
 use Rattle.lists.specs.Words.{nodeAt}
 use Rattle.lists.specs.Rows.{stateIn, flowsIn, exitIn, stepRoad}
 use Rattle.lists.specs.Fits.{JamKept}
-use Rattle.faults.specs.Records.{fixedFault, stepFault}
+use Rattle.record_faults.specs.Records.{fixedFault, stepFault}
 use Rattle.convert_rows.specs.Rows.{bareRoad, fixedFaultIn, stepFaultIn, NodeKept, RowsKept}
-use Rattle.faults.proofs.Records.{step-iff}
+use Rattle.record_faults.proofs.Records.{step-iff}
 
 module _ (width : ℕ) (corridor demand row : List ℕ) (links : ℕ) (rows : RowsKept width corridor demand row links) where
   pub jam-of : JamKept width corridor row links

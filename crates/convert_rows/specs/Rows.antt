@@ -13,7 +13,7 @@ use Rattle.road.specs.Step.{exit}
 use Rattle.road.specs.Run.{junction, next}
 use Rattle.settings.specs.declared.Setting.{Setting}
 use Rattle.settings.specs.Setting.{settingFor, rateIn, limitIn}
-use Rattle.faults.specs.Records.{exitKept, fixedFault, stepFault}
+use Rattle.record_faults.specs.Records.{exitKept, fixedFault, stepFault}
 use Rattle.lists.specs.Words.{nodeAt, Width}
 use Rattle.lists.specs.Rows.{stateIn, flowsIn, exitIn, stepRoad}
 use Rattle.lists.specs.Fits.{CorridorFits, RowFits}

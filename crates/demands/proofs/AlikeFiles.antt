@@ -27,7 +27,8 @@ use Rattle.block.specs.Calls.{toldFits, fileAnswer}
 use Rattle.block.proofs.Calls.{told-is, length-low, length-high}
 use Rattle.block.proofs.EachKind.{number-fits}
 use Rattle.block.proofs.Chosen.{told-kind}
-use Rattle.files.specs.Files.{corridorIn, demandsIn, fileWidth, recordIn, filesAnswer, readThenCheck, checkFiles, convertFiles, planFile, planWritten}
+use Rattle.file_rows.specs.Words.{corridorIn, demandsIn, fileWidth, recordIn}
+use Rattle.files.specs.Files.{filesAnswer, readThenCheck, checkFiles, convertFiles, planFile, planWritten}
 use Rattle.files.proofs.Turns.{second-same, sized-same}
 use Rattle.demands.specs.Completed.{SameOnFiles}
 

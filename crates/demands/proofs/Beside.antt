@@ -30,7 +30,7 @@ use Rattle.lists.proofs.Fits.{record-fits}
 use Rattle.simulate.specs.Simulate.{simulateAnswer, simulated}
 use Rattle.convert.specs.Refusals.{judged}
 use Rattle.convert.specs.Convert.{planFor, convertedBy, converted, normalForm, checkAnswer, normalAnswer}
-use Rattle.faults.proofs.Records.{queueFault, queue-iff}
+use Rattle.record_faults.proofs.Records.{queueFault, queue-iff}
 use Rattle.convert.proofs.Facts.{judged-queue}
 use Rattle.convert.proofs.Plans.{plan-named}
 use Rattle.convert.proofs.Normal.{simulated-fits}

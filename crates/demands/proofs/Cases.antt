@@ -15,7 +15,7 @@ use Rattle.lists.specs.Words.{linksOf, byKind, nodeAt, stepsOf, roadOf, planOf,
 use Rattle.faults.specs.Lists.{linkFault, rampFault, startFault, demandFault}
 use Rattle.lists.specs.Refusals.{corridorSized, demandsSized, recordSized, sizes, fresh, linkRefusal, rampRefusal, startRefusal, demandRefusal, ranges}
 use Rattle.simulate.proofs.Case.{case-1}
-use Rattle.faults.specs.Records.{fixedFault, nextFault, stepFault, totalFault}
+use Rattle.record_faults.specs.Records.{fixedFault, nextFault, stepFault, totalFault}
 use Rattle.convert.specs.Refusals.{costFault, judged}
 use Rattle.convert.specs.Convert.{settingAt, planFor, convertedBy, convertAnswer}
 use Rattle.demands.specs.Cases.{Cases}

@@ -19,7 +19,8 @@ use Rattle.payload.specs.File.{fileOf}
 use Rattle.block.specs.declared.Kind.the-variants.{Corridor, Demands, Record}
 use Rattle.block.specs.Kinds.{Told, kindNumber, listLength, ownAgrees, later, fileKind}
 use Rattle.block.specs.Calls.{fileAnswer}
-use Rattle.files.specs.Files.{corridorIn, demandsIn, fileWidth, recordIn, filesAnswer}
+use Rattle.file_rows.specs.Words.{corridorIn, demandsIn, fileWidth, recordIn}
+use Rattle.files.specs.Files.{filesAnswer}
 use Rattle.files.proofs.Answers.{files-fit}
 use Rattle.files.proofs.Contents.{own-links, own-steps}
 use Rattle.demands.specs.Completed.{completed, SameOnFiles}

@@ -24,8 +24,8 @@ use Rattle.road.specs.Limits.{Limits}
 use Rattle.road.proofs.Rules.{state-eq, flows-eq, exit-unsplit}
 use Rattle.road.proofs.Same.{SameTraces, junction-same, next-same, cost-same}
 use Rattle.settings.specs.Setting.{settingFor, rateIn, limitIn}
-use Rattle.faults.specs.Records.{exitKept, fixedFault, stepFault, totalFault}
-use Rattle.faults.proofs.Records.{NoExit, fixed-unsaid, step-unsaid}
+use Rattle.record_faults.specs.Records.{exitKept, fixedFault, stepFault, totalFault}
+use Rattle.record_faults.proofs.Records.{NoExit, fixed-unsaid, step-unsaid}
 use Rattle.lists.specs.Words.{linksOf, stepsOf, roadOf, planWords, Width, traceOf, exitSaid, exitsOf, traceLength, planLength, recordLength, widthOf}
 use Rattle.lists.specs.Refusals.{recordSized, sizes, ranges}
 use Rattle.lists.proofs.Limits.{sizes-iff, ranges-iff}

@@ -13,10 +13,11 @@ use Rattle.payload.specs.File.{payloadOf, fileOf}
 use Rattle.block.specs.declared.Kind.the-variants.{Corridor, Demands, Record}
 use Rattle.block.specs.Kinds.{Told, kindNumber, listLength, ownAgrees, later, fileKind}
 use Rattle.block.specs.Calls.{fileAnswer}
-use Rattle.files.specs.Files.{corridorIn, demandsIn, fileWidth, recordIn, filesAnswer}
+use Rattle.file_rows.specs.Words.{corridorIn, demandsIn, fileWidth, recordIn}
+use Rattle.files.specs.Files.{filesAnswer}
 use Rattle.files.proofs.Answers.{files-fit}
 use Rattle.files.proofs.Contents.{own-links, own-steps}
-use Rattle.files.proofs.Records.{record-count}
+use Rattle.file_rows.proofs.Records.{record-count}
 use Rattle.files.proofs.Turns.{second-same}
 use Rattle.demands.specs.Completed.{completedRecord, SameOnFiles}
 use Rattle.demands.proofs.AlikeFiles.{of-files, alike-files, file-holds, file-answers}

@@ -15,7 +15,8 @@ use Rattle.lists.specs.Words.{linksOf, stepsOf, roadOf, corridorLength, demands
 use Rattle.simulate.specs.Simulate.{simulateAnswer, recordLeft}
 use Rattle.payload.specs.Word.{Words}
 use Rattle.payload.specs.File.{fileOf}
-use Rattle.files.specs.Files.{corridorIn, demandsIn, checkFiles, convertFiles, planWritten}
+use Rattle.file_rows.specs.Words.{corridorIn, demandsIn}
+use Rattle.files.specs.Files.{checkFiles, convertFiles, planWritten}
 use Rattle.convert.specs.Convert.{checkAnswer, convertAnswer, planLeft, normalAnswer, workLeft, normalLeft}
 
 -- demands of K steps with the flow that may leave link N, 65,536 in each

@@ -1,2 +1,2 @@
-// The fault of one node by each of refusals 2 to 12, and of a cost by 13.
+// The fault of one node by each of refusals 2 to 6.
 pub mod inner;

@@ -23,11 +23,12 @@ use Rattle.block.specs.declared.Kind.the-variants.{Corridor, Demands, Record, P
 use Rattle.block.specs.Kinds.{Told, listLength, ownAgrees, fileKind}
 use Rattle.block.specs.Calls.{toldFits, fileAnswer}
 use Rattle.block.proofs.Calls.{told-is, file-kept, file-bytes}
-use Rattle.files.specs.Files.{corridorIn, demandsIn, fileWidth, recordIn, filesAnswer, readThenCheck, checkFiles, convertFiles, planFile, planWritten}
+use Rattle.file_rows.specs.Words.{corridorIn, demandsIn, fileWidth, recordIn}
+use Rattle.files.specs.Files.{filesAnswer, readThenCheck, checkFiles, convertFiles, planFile, planWritten}
 use Rattle.files.specs.Fits.{FilesFit, Accepts, wordsAnswer}
-use Rattle.files.proofs.Corridors.{corridor-count, corridor-own}
-use Rattle.files.proofs.Demands.{demands-own}
-use Rattle.files.proofs.Records.{record-count}
+use Rattle.file_rows.proofs.Corridors.{corridor-count, corridor-own}
+use Rattle.file_rows.proofs.Demands.{demands-own}
+use Rattle.file_rows.proofs.Records.{record-count}
 use Rattle.files.proofs.Contents.{read-sizes, read-width, read-sized}
 
 -- ---- the three files in turn: a, b and c are their answers as calls gave them, `first` what the corridor's file chose and kind what the demands' did

@@ -11,7 +11,7 @@ use Rattle.tables.specs.Answer.{refusal}
 use Rattle.tables.proofs.Answers.{Refuses, or-else-stop, or-else-next}
 use Rattle.tables.proofs.Tabulate.{tabulate-length, tabulate-at}
 use Rattle.road.specs.Run.{cost}
-use Rattle.faults.specs.Records.{totalFault}
+use Rattle.record_faults.specs.Records.{totalFault}
 use Rattle.lists.specs.Words.{linksOf, stepsOf, roadOf, traceOf, traceLength, recordLength, widthOf}
 use Rattle.lists.specs.Refusals.{recordSized, sizes, ranges}
 use Rattle.lists.specs.Fits.{CorridorFits, DemandsFit}
@@ -24,11 +24,12 @@ use Rattle.convert.specs.Rows.{fixedRefusal, stepsRefusal, Ready}
 use Rattle.convert.proofs.Answers.{ready, ready-as, cost-told, judged-fixed, judged-steps, judged-cost}
 use Rattle.payload.specs.File.{blocksFor, payloadWord, payloadPart}
 use Rattle.payload.proofs.Payloads.{payload-all}
-use Rattle.files.specs.Files.{corridorCount, corridorIn, demandsCount, demandsIn, fileWidth, recordIn}
-use Rattle.files.specs.Fits.{Holds, FilesFit, Accepts, wordsAnswer, FilesReady, FilesKept}
-use Rattle.files.proofs.Corridors.{corridor-sized}
-use Rattle.files.proofs.Demands.{count-low, count-sized}
-use Rattle.files.proofs.Records.{file-wide}
+use Rattle.file_rows.specs.Words.{corridorCount, corridorIn, demandsCount, demandsIn, fileWidth, recordIn}
+use Rattle.file_rows.specs.Rows.{Holds}
+use Rattle.files.specs.Fits.{FilesFit, Accepts, wordsAnswer, FilesReady, FilesKept}
+use Rattle.file_rows.proofs.Corridors.{corridor-sized}
+use Rattle.file_rows.proofs.Demands.{count-low, count-sized}
+use Rattle.file_rows.proofs.Records.{file-wide}
 
 -- the cost's two words, read where they stand: v is the fault's number as the code has it, and a the answer that is made of it
 pub cost-read : (width links steps at w total v low high : ℕ) (file : List ℕ) (a : Answer) → low ≡ payloadWord file at → high ≡ payloadWord file (at + 1)

@@ -1,6 +1,3 @@
-pub mod Corridors
-pub mod Demands
-pub mod Records
 pub mod Rows
 pub mod Contents
 pub mod Plans

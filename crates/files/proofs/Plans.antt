@@ -19,8 +19,10 @@ use Rattle.payload.proofs.Payloads.{payload-put, put-length-same}
 use Rattle.block.specs.declared.Kind.the-variants.{Plan}
 use Rattle.block.specs.Kinds.{Told, kindNumber, listLength}
 use Rattle.block.proofs.Calls.{length-high}
-use Rattle.files.specs.Files.{corridorCount, corridorIn, demandsIn, fileWidth, recordIn, planFile}
-use Rattle.files.specs.Fits.{Holds, FilesFit, demandRowIn, downstreamIn, stateRowIn, planRowIn}
+use Rattle.file_rows.specs.Words.{corridorCount, corridorIn, demandsIn, fileWidth, recordIn}
+use Rattle.files.specs.Files.{planFile}
+use Rattle.file_rows.specs.Rows.{Holds, demandRowIn, downstreamIn, stateRowIn}
+use Rattle.files.specs.Fits.{FilesFit, planRowIn}
 use Rattle.files.proofs.Rows.{demand-part, state-part}
 use Rattle.files.proofs.Contents.{corridor-read, read-width}
 

@@ -1,18 +1,16 @@
 -- Rows unpacked out of the files: each is the row of the list that the file holds, and says of its step what that list says.
 use Prim.Native.Nat.{ℕ, suc, _+_, _-_, _*_, _<_, _≤_}
 use mathlib.Core.List.{List}
-use mathlib.Core.Path.{_≡_, refl, sym, ap, ap₂, subst, _∙_}
+use mathlib.Core.Path.{_≡_, refl, sym, ap, subst, _∙_}
 use native.Mathlib.Numerals.{add-one}
 use native.Mathlib.Omega.{arith}
-use lib.ListN.{length, getD, take, drop}
+use lib.ListN.{getD, take, drop}
 use Rattle.tables.specs.declared.Answer.{Answer}
 use Rattle.tables.specs.declared.Answer.the-variants.{Accepted}
 use Rattle.tables.specs.First.{firstNode}
 use Rattle.tables.proofs.Numbers.{row-fits}
-use Rattle.tables.proofs.Tabulate.{tabulate-length}
 use Rattle.lists.specs.declared.inner.scans.NodeTest.{NodeTest}
 use Rattle.lists.specs.Words.{linksOf, free, roadOf, Width, traceOf, exitsOf, recordLength}
-use Rattle.lists.specs.Fits.{RowFits}
 use Rattle.lists.specs.Scans.{nodeFaultIn, nodeFaultAt}
 use Rattle.lists.proofs.Scans.{row-told}
 use Rattle.simulate_rows.specs.Rows.{rowCost}
@@ -23,32 +21,11 @@ use Rattle.convert_rows.specs.Rows.{fixedFaultIn, stepFaultIn, settingIn, RowsK
 use Rattle.convert.specs.Rows.{fixedRowRefusal, fixedRefusal, stepRefusal, stepsRefusal, stateCostAt, Ready}
 use Rattle.convert.proofs.Rows.{TraceRow, fixed-row-told, demand-lent, trace-lent, step-told, step-kept, plan-kept, plan-sent, row-setting}
 use Rattle.convert.proofs.Answers.{row-cost-told}
-use Rattle.payload.specs.File.{blocksFor, payloadPart}
 use Rattle.payload.proofs.Payloads.{payload-part}
-use Rattle.files.specs.Files.{demandsCount, demandsIn, recordIn}
-use Rattle.files.specs.Fits.{Holds, demandRowIn, downstreamIn, stateRowIn}
-use Rattle.files.proofs.Demands.{count-low}
-
--- ---- a row of n words from word `from` on, as the code has these numbers
-
-pub unpacked : (at count from n : ℕ) (file row : List ℕ) → row ≡ payloadPart at count file → at ≡ from → count ≡ n → row ≡ payloadPart from n file
-unpacked at count from n file row told e c = told ∙ ap₂ (λ (x y : ℕ). payloadPart x y file) e c
-
-pub demand-length : (links k : ℕ) (file row : List ℕ) → row ≡ demandRowIn links file k → RowFits 2 row links
-demand-length links k file row told = ap length told ∙ tabulate-length ((links + 1) * 2) _ ∙ ap (λ (n : ℕ). n * 2) (add-one links)
-
-pub state-length : (width links k : ℕ) (file row : List ℕ) → row ≡ stateRowIn width links file k → RowFits width row links
-state-length width links k file row told = ap length told ∙ tabulate-length (suc links * width) _
-
--- a row of the demands that begins one word past `at` lies in the file
-pub demand-holds : (links steps at count : ℕ) (file : List ℕ) → at + (links + 1) * 2 ≤ steps * ((links + 1) * 2) → Holds (demandsCount links steps file) file
-    → count ≡ (links + 1) * 2 → blocksFor (1 + at + count) * 512 ≤ length file
-demand-holds links steps at count file h e c = omega (arith, count-low links steps file, ap (λ (n : ℕ). steps * (n * 2)) (add-one links))
-
--- a record's row of w words that begins at `at`, as calls gave them, lies in the file
-pub state-holds : (width links steps at w count : ℕ) (file : List ℕ) → at + w ≤ (steps + 1) * w → w ≡ suc links * width → count ≡ suc links * width
-    → Holds (recordLength width links steps) file → blocksFor (at + count) * 512 ≤ length file
-state-holds width links steps at w count file h q c e = omega (arith, ap (λ (x : ℕ). (steps + 1) * x) q)
+use Rattle.file_rows.specs.Words.{demandsCount, demandsIn, recordIn}
+use Rattle.file_rows.specs.Rows.{demandRowIn, downstreamIn, stateRowIn}
+use Rattle.file_rows.proofs.Demands.{count-low}
+use Rattle.file_rows.proofs.Rows.{demand-length, state-length}
 
 -- ---- it is a part of the list, and what a call finds in it, it finds in the whole list
 

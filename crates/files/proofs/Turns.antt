@@ -22,12 +22,13 @@ use Rattle.block.specs.declared.Kind.the-variants.{Corridor, Demands, Record, P
 use Rattle.block.specs.Kinds.{kindNumber, listLength, ownAgrees, fileKind}
 use Rattle.block.specs.Calls.{toldFits, fileAnswer, readAnswer, wordsRead, writeAnswer, fileWritten}
 use Rattle.block.proofs.Calls.{told-is}
-use Rattle.files.specs.Files.{corridorIn, demandsIn, fileWidth, recordIn, filesAnswer, readThenCheck, checkFiles, convertFiles, planFile, planWritten}
+use Rattle.file_rows.specs.Words.{corridorIn, demandsIn, fileWidth, recordIn}
+use Rattle.files.specs.Files.{filesAnswer, readThenCheck, checkFiles, convertFiles, planFile, planWritten}
 use Rattle.files.specs.Fits.{FilesFit}
 use Rattle.files.specs.Turns.{inTurn, Turns}
 use Rattle.files.proofs.Contents.{own-links, own-steps}
-use Rattle.files.proofs.Corridors.{corridor-count}
-use Rattle.files.proofs.Records.{record-count}
+use Rattle.file_rows.proofs.Corridors.{corridor-count}
+use Rattle.file_rows.proofs.Records.{record-count}
 use Rattle.files.proofs.Answers.{files-fit}
 
 -- an answer that comes second counts only where the first accepts

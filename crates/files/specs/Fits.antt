@@ -1,23 +1,19 @@
 -- What the functions ask of the files that they are lent: the readers' tests give it.
 use mathlib.Core.List.{List}
 use mathlib.Core.Path.{_≡_}
-use Prim.Native.Nat.{ℕ, suc, _+_, _*_}
-use lib.ListN.{length}
+use Prim.Native.Nat.{ℕ}
 use Rattle.tables.specs.declared.Answer.{Answer}
 use Rattle.tables.specs.declared.Answer.the-variants.{Accepted}
 use Rattle.tables.specs.Answer.{orElse}
-use Rattle.lists.specs.Words.{downstreamWord, roadOf, recordLength}
+use Rattle.lists.specs.Words.{roadOf, recordLength}
 use Rattle.lists.specs.Refusals.{ranges}
 use Rattle.convert.specs.Refusals.{judged}
 use Rattle.convert_rows.specs.Rows.{planRow}
 use Rattle.convert.specs.Rows.{Ready}
-use Rattle.payload.specs.File.{blocksFor, payloadWord, payloadPart}
+use Rattle.payload.specs.File.{payloadWord}
 use Rattle.block.specs.Kinds.{Told}
-use Rattle.files.specs.Files.{corridorCount, corridorIn, demandsCount, demandsIn, fileWidth, recordIn}
-
--- a file has the blocks of m payload words
-abbrev pub Holds : ℕ → List ℕ → Type 0
-Holds m file = length file ≡ blocksFor m * 512
+use Rattle.file_rows.specs.Words.{corridorCount, corridorIn, demandsCount, demandsIn, fileWidth, recordIn}
+use Rattle.file_rows.specs.Rows.{Holds, demandRowIn, downstreamIn, stateRowIn}
 
 -- N and K are good, the three files have their blocks, and their own N and K are as told
 pub record FilesFit (links steps : ℕ) (corridor demands recorded : List ℕ) : Type 0 where
@@ -38,17 +34,6 @@ abbrev pub wordsAnswer : ℕ → ℕ → List ℕ → List ℕ → List ℕ → 
 wordsAnswer links steps corridor demands recorded =
     orElse (ranges (roadOf (corridorIn links corridor) (demandsIn links steps demands)))
     (judged (fileWidth recorded) (roadOf (corridorIn links corridor) (demandsIn links steps demands)) (recordIn (fileWidth recorded) links steps recorded))
-
--- the row of step k out of the demands' file, and that of state k out of a record's
-abbrev pub demandRowIn : ℕ → List ℕ → ℕ → List ℕ
-demandRowIn links file k = payloadPart (1 + k * ((links + 1) * 2)) ((links + 1) * 2) file
-
--- the flow that may leave link N in step k, in the words of the demands' file
-abbrev pub downstreamIn : ℕ → ℕ → List ℕ → ℕ → ℕ
-downstreamIn links steps file k = downstreamWord (demandsIn links steps file) links steps k
-
-abbrev pub stateRowIn : ℕ → ℕ → List ℕ → ℕ → List ℕ
-stateRowIn width links file k = payloadPart (k * (suc links * width)) (suc links * width) file
 
 -- the plan's row of step k
 abbrev pub planRowIn : ℕ → List ℕ → ℕ → ℕ → List ℕ → List ℕ → ℕ → List ℕ

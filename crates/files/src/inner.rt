@@ -1,6 +1,5 @@
-// What asks something of its caller: one step's rows out of the files, what is found in them, all steps, and the plan file.
+// What asks something of its caller: what is found in the rows of one step, in all steps, and the plan file.
 pub mod answers;
 pub mod plans;
 pub mod rows;
 pub mod scans;
-pub mod unpacked;

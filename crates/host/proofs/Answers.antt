@@ -31,8 +31,9 @@ use Rattle.block.specs.Kinds.{listLength, fileKind}
 use Rattle.block.specs.Calls.{toldFits, fileAnswer, readAnswer, writeAnswer}
 use Rattle.block.proofs.Bounds.{file-bounded, read-bounded, write-bounded}
 use Rattle.block.proofs.Calls.{told-is, length-high}
-use Rattle.files.specs.Files.{corridorIn, demandsIn, fileWidth, recordIn, filesAnswer, readThenCheck, checkFiles, convertFiles}
-use Rattle.faults.specs.Records.{sameState, exitKept, unlessThen, fixedFault, nextFault, stepFault, totalFault}
+use Rattle.file_rows.specs.Words.{corridorIn, demandsIn, fileWidth, recordIn}
+use Rattle.files.specs.Files.{filesAnswer, readThenCheck, checkFiles, convertFiles}
+use Rattle.record_faults.specs.Records.{sameState, exitKept, unlessThen, fixedFault, nextFault, stepFault, totalFault}
 use Rattle.convert.specs.Refusals.{costFault, fixedAt, stepAt, judged}
 
 -- ---- each fault's number is small

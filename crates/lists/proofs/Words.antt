@@ -19,7 +19,7 @@ use Rattle.road.specs.Step.{exit}
 use Rattle.road.specs.Run.{cost}
 use Rattle.road.proofs.Rules.{flows-eq, state-eq}
 use Rattle.road.proofs.Same.{SameSetting, SamePlans, SamePlace, SameTraces, cost-same}
-use Rattle.faults.specs.Records.{exitKept}
+use Rattle.record_faults.specs.Records.{exitKept}
 use Rattle.lists.specs.Words.{planOf, planWord, planWords, planLength, Width, traceOf, exitSaid, exitsOf, exitAt, traceWord, nodeWord, traceWords, lowHigh, recordWords, traceLength, recordLength}
 
 -- ---- a plan

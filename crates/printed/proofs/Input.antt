@@ -28,8 +28,10 @@ use Rattle.block.specs.declared.Kind.{Kind}
 use Rattle.block.specs.declared.Kind.the-variants.{Corridor, CorridorDrop, Demands, DemandsDownstream, Record, RecordExits, Plan}
 use Rattle.block.specs.Kinds.{Told, kindNumber, listLength, later, kindWord, fileKind}
 use Rattle.block.specs.Calls.{toldFits}
-use Rattle.files.specs.Files.{corridorCount, corridorIn, demandsIn, fileWidth, recordIn, readThenCheck}
-use Rattle.files.specs.Fits.{Holds, FilesFit, Accepts}
+use Rattle.file_rows.specs.Words.{corridorCount, corridorIn, demandsIn, fileWidth, recordIn}
+use Rattle.files.specs.Files.{readThenCheck}
+use Rattle.file_rows.specs.Rows.{Holds}
+use Rattle.files.specs.Fits.{FilesFit, Accepts}
 use Rattle.files.proofs.Answers.{accepts}
 use Rattle.files.proofs.Contents.{own-links, own-steps, cost-inside}
 use Rattle.printed.specs.declared.inner.input.Layout.{Layout}

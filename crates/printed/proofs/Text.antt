@@ -20,7 +20,7 @@ use Rattle.settings.specs.declared.Setting.{Setting}
 use Rattle.settings.specs.declared.Setting.the-variants.{Full, Held}
 use Rattle.lists.specs.Words.{nodeAt, roadOf, traceOf}
 use Rattle.convert.specs.Convert.{settingAt}
-use Rattle.files.specs.Files.{recordIn}
+use Rattle.file_rows.specs.Words.{recordIn}
 use Rattle.printed.specs.declared.inner.input.Layout.{Layout}
 use Rattle.printed.specs.Input.{linksIn, stepsIn, demandsBlock, demandsKind, corridorFile, demandsFile, recordFile}
 use Rattle.printed.specs.Text.{decimalIn, decimal, spaced, planWord, letter, inputRoad, inputTrace, headLine, settingLine, filesLine, planLine}

@@ -13,7 +13,8 @@ use Rattle.payload.specs.File.{blocksFor, payloadWord}
 use Rattle.payload.specs.Reading.{tested}
 use Rattle.block.specs.declared.Kind.{Kind}
 use Rattle.block.specs.Kinds.{listLength}
-use Rattle.files.specs.Files.{fileWidth, readThenCheck}
+use Rattle.file_rows.specs.Words.{fileWidth}
+use Rattle.files.specs.Files.{readThenCheck}
 use Rattle.printed.specs.declared.inner.input.Layout.{Layout}
 use Rattle.printed.specs.Input.{linksIn, stepsIn, demandsBlock, endBlock, corridorFile, demandsFile, recordFile}
 

@@ -12,7 +12,8 @@ use Rattle.payload.specs.Reading.{tested}
 use Rattle.block.specs.declared.Kind.{Kind}
 use Rattle.block.specs.declared.Kind.the-variants.{Demands, Record}
 use Rattle.block.specs.Kinds.{listLength, fileKind}
-use Rattle.files.specs.Files.{corridorCount, readThenCheck}
+use Rattle.file_rows.specs.Words.{corridorCount}
+use Rattle.files.specs.Files.{readThenCheck}
 
 -- N: word 2 of the corridor's first block
 unfoldable pub linksIn : List ℕ → ℕ

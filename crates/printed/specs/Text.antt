@@ -13,7 +13,7 @@ use Rattle.settings.specs.declared.Setting.the-variants.{Full, Held}
 use Rattle.settings.specs.Setting.{rateIn, limitIn}
 use Rattle.lists.specs.Words.{nodeAt, roadOf, traceOf}
 use Rattle.convert.specs.Convert.{settingAt}
-use Rattle.files.specs.Files.{corridorIn, demandsIn, fileWidth, recordIn}
+use Rattle.file_rows.specs.Words.{corridorIn, demandsIn, fileWidth, recordIn}
 use Rattle.printed.specs.Input.{linksIn, stepsIn, corridorFile, demandsFile, recordFile, inputAnswer}
 
 -- ---- numbers

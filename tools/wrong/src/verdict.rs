@@ -26,7 +26,7 @@ impl fmt::Display for Verdict {
 }
 
 /// Words of errors that say that a fact was looked for and not found.
-const FACT: [&str; 12] = [
+const FACT: [&str; 13] = [
     "`search`: no proof of",
     // the same in a function that has no proof file
     "`search` does not close",
@@ -38,6 +38,7 @@ const FACT: [&str; 12] = [
     "`rw` has no last argument, so what it leaves must be a path",
     // an equation of the proof that is of another value than the goal
     "`rw`: no occurrence of the path's",
+    "`simp`: no equation of the list has an instance in the goal",
     // two sides of an equation, compared late
     "does not hold (this comparison",
     // the same, computed at once
@@ -179,6 +180,7 @@ mod tests {
             "proofs/inner/merge/Proof.antt:21:81: error: `returns-2`: `omega`: the goal does not follow from what it read.",
             "proofs/inner/place/put_run/Proof.antt:19:5: error: `put-word-requires`: `omega` stopped at a bound of its own: eliminating one atom",
             "proofs/inner/calls/told_fits/Proof.antt:9:13: error: `returns`: `rw`: no occurrence of the path's right endpoint in the goal",
+            "proofs/inner/put_exit/Proof.antt:10:13: error: `returns`: `simp`: no equation of the list has an instance in the goal `Reads.Post`",
             "proofs/inner/gives/Proof.antt:10:13: error: `returns`: give a proof of that as the last argument, `simp L t`\n  `simp` has no last argument, so what it leaves must be a path whose two ends are equal",
             "proofs/inner/kinds/own_agrees/Proof.antt:9:13: error: `returns`: give a proof of that as the last argument, `rw L t`\n  `rw` has no last argument, so what it leaves must be a path whose two ends are equal",
             "proofs/inner/kinds/list_kind/Proof.antt:13:61: error: `returns-2`: list the missing equation with its arguments\n  `cc` met a bound of its own before the equations had joined `r` and `s`",

@@ -15,7 +15,6 @@ ghost use Rattle.convert.specs.Refusals.{costFault, judged};
 ghost use Rattle.convert.specs.Convert.{recordRefusal};
 ghost use Rattle.convert_rows.specs.Rows.{bareRoad};
 ghost use Rattle.convert.specs.Rows.{fixedRowRefusal, fixedRefusal, stepRefusal, stepsRefusal, stateCostAt, Ready};
-use faults::inner::records;
 use lists::inner::scans;
 use lists::inner::words;
 use tables::Answer;
@@ -189,7 +188,11 @@ pub fn scan_cost(links: usize, steps: usize, words: &[u32], width: usize) -> Ans
 {
     let total = total_cost(links, steps, words, width);
     let at = words.len() - 2;
-    refusal(records::total_fault(total, words[at], words[at + 1]), 0, 0)
+    refusal(
+        record_faults::inner::total_fault(total, words[at], words[at + 1]),
+        0,
+        0,
+    )
 }
 
 // The first refusal of 7 to 13.

@@ -10,7 +10,6 @@ ghost use Rattle.lists.specs.Words.{Width};
 ghost use Rattle.lists.specs.Rows.{flowsIn, stepRoad};
 ghost use Rattle.lists.specs.Fits.{CorridorFits, RowFits, NodeIn};
 ghost use Rattle.convert_rows.specs.Rows.{fixedFaultIn, stepFaultIn, exitFaultIn, exitsDue, RowsKept};
-use faults::inner::records;
 use lists::inner::words;
 use road::Units;
 use tables::Answer;
@@ -35,7 +34,7 @@ fn fixed_answer(
     let state = words::state_at(row, width, i);
     let flows = words::flows_at(row, width, i);
     let said = words::exit_at(row, width, i);
-    let number = records::fixed_fault(links, steps, k, i, start, state, flows, said);
+    let number = record_faults::inner::fixed_fault(links, steps, k, i, start, state, flows, said);
     refusal(number, k as u32, i as u32)
 }
 
@@ -130,7 +129,14 @@ fn step_answer(
     let said = words::exit_at(row, width, i);
     let arrivals = words::arrivals_at(demand, i);
     let state = words::state_at(after, width, i);
-    let number = records::step_fault(junction, flows, said, Units(gained), arrivals, state);
+    let number = record_faults::inner::step_fault(
+        junction,
+        flows,
+        said,
+        Units(gained),
+        arrivals,
+        state,
+    );
     refusal(number, k as u32, i as u32)
 }
 
@@ -195,7 +201,7 @@ fn exit_answer(k: usize, demand: &[u32], row: &[u32], i: usize) -> Answer
     let said = words::exit_at(row, 5, i);
     let flows = words::flows_at(row, 5, i);
     let split = words::split_at(demand, i);
-    let number = records::exit_fault(said, flows.main, split);
+    let number = record_faults::inner::exit_fault(said, flows.main, split);
     refusal(number, k as u32, i as u32)
 }
 

@@ -8,10 +8,10 @@ ghost use Rattle.lists.specs.Words.{planLength};
 ghost use Rattle.payload.specs.File.{blocksFor};
 ghost use Rattle.block.specs.Kinds.{Told};
 ghost use Rattle.block.specs.Calls.{toldFits};
-ghost use Rattle.files.specs.Files.{corridorCount, filesAnswer, readThenCheck};
+ghost use Rattle.file_rows.specs.Words.{corridorCount};
+ghost use Rattle.files.specs.Files.{filesAnswer, readThenCheck};
 ghost use Rattle.files.specs.Fits.{FilesFit, wordsAnswer};
 use crate::inner::scans;
-use crate::inner::unpacked;
 use block::Kind;
 use block::inner::calls;
 use block::inner::kinds;
@@ -68,7 +68,7 @@ fn contents(
     if is_refused(answer) {
         return answer;
     }
-    let width = unpacked::record_width(recorded);
+    let width = file_rows::inner::record_width(recorded);
     scans::judged(list, demands, links, steps, recorded, width)
 }
 
@@ -82,7 +82,7 @@ pub fn read_then_check(n: u32, k: u32, corridor: &[u8], demands: &[u8], recorded
         return answer;
     }
     let links = n as usize;
-    let count = unpacked::corridor_count(links, corridor);
+    let count = file_rows::inner::corridor_count(links, corridor);
     let mut room = [0u32; 716];
     let list = &mut room[..count];
     contents(links, k as usize, corridor, list, demands, recorded)

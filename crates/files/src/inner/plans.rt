@@ -6,9 +6,10 @@ ghost use Rattle.lists.specs.Words.{planLength};
 ghost use Rattle.convert.specs.Convert.{convertedBy};
 ghost use Rattle.payload.specs.File.{payloadOf, putPayload};
 ghost use Rattle.payload.specs.Word.{Words};
-ghost use Rattle.files.specs.Files.{corridorCount, demandsIn, recordIn, planFile};
-ghost use Rattle.files.specs.Fits.{Holds, FilesFit, Accepts, FilesKept, planRowIn};
-use crate::inner::unpacked;
+ghost use Rattle.file_rows.specs.Words.{corridorCount, demandsIn, recordIn};
+ghost use Rattle.files.specs.Files.{planFile};
+ghost use Rattle.file_rows.specs.Rows.{Holds};
+ghost use Rattle.files.specs.Fits.{FilesFit, Accepts, FilesKept, planRowIn};
 use lists::inner::scans;
 use payload::inner::place;
 use payload::inner::sealing;
@@ -34,10 +35,10 @@ fn put_step(
     let demand = &mut demand_room[..narrow];
     let mut room = [0u32; 325];
     let row = &mut room[..wide];
-    unpacked::step_rows(demands, recorded, links, steps, width, k, demand, row);
+    file_rows::inner::step_rows(demands, recorded, links, steps, width, k, demand, row);
     let mut plan_room = [0u32; 130];
     let out = &mut plan_room[..narrow];
-    let downstream = unpacked::downstream(demands, links, steps, k);
+    let downstream = file_rows::inner::downstream(demands, links, steps, k);
     convert_rows::inner::plans::plan_row(corridor, links, demand, downstream, row, width, out);
     place::put(plan, scans::row_at(k, narrow, steps), out);
 }
@@ -79,7 +80,7 @@ fn fill_plan(
     ensures { λ _. ⌜ now (plan .exit) ≡ planFile links steps (now (corridor .entry)) (now (demands .entry)) (now (recorded .entry)) ⌝ }
 {
     place::unpack(corridor, 0, list);
-    let width = unpacked::record_width(recorded);
+    let width = file_rows::inner::record_width(recorded);
     put_steps(list, demands, links, steps, recorded, width, plan);
     sealing::seal(4, scans::table_length(steps, (links + 1) * 2), plan);
 }
@@ -98,7 +99,7 @@ pub fn write_plan(
     requires { ⌜ Holds (planLength links steps) (now plan) ⌝ }
     ensures { λ _. ⌜ now (plan .exit) ≡ planFile links steps (now (corridor .entry)) (now (demands .entry)) (now (recorded .entry)) ⌝ }
 {
-    let count = unpacked::corridor_count(links, corridor);
+    let count = file_rows::inner::corridor_count(links, corridor);
     let mut room = [0u32; 716];
     let list = &mut room[..count];
     fill_plan(links, steps, corridor, list, demands, recorded, plan);

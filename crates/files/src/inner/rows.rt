@@ -8,9 +8,9 @@ ghost use Rattle.lists.specs.Words.{Width, recordLength};
 ghost use Rattle.lists.specs.Fits.{CorridorFits};
 ghost use Rattle.lists.specs.Scans.{nodeFaultAt};
 ghost use Rattle.convert.specs.Rows.{fixedRowRefusal, fixedRefusal, stepRefusal, stepsRefusal, stateCostAt};
-ghost use Rattle.files.specs.Files.{demandsCount, demandsIn, recordIn};
-ghost use Rattle.files.specs.Fits.{Holds, FilesReady};
-use crate::inner::unpacked;
+ghost use Rattle.file_rows.specs.Words.{demandsCount, demandsIn, recordIn};
+ghost use Rattle.file_rows.specs.Rows.{Holds};
+ghost use Rattle.files.specs.Fits.{FilesReady};
 use lists::inner::scans;
 use tables::Answer;
 
@@ -23,8 +23,8 @@ pub fn demand_at(corridor: &[u32], links: usize, steps: usize, demands: &[u8], k
     let narrow = (links + 1) * 2;
     let mut room = [0u32; 130];
     let row = &mut room[..narrow];
-    unpacked::demand_row(demands, links, steps, k, row);
-    let downstream = unpacked::downstream(demands, links, steps, k);
+    file_rows::inner::demand_row(demands, links, steps, k, row);
+    let downstream = file_rows::inner::downstream(demands, links, steps, k);
     scans::scan_nodes(scans::NodeTest::Demand, k, corridor, links, row, downstream)
 }
 
@@ -44,7 +44,7 @@ pub fn fixed_at(
     let wide = scans::state_words(links, width);
     let mut room = [0u32; 325];
     let row = &mut room[..wide];
-    unpacked::state_row(recorded, links, steps, width, k, row);
+    file_rows::inner::state_row(recorded, links, steps, width, k, row);
     convert_rows::inner::rows::fixed_row(corridor, links, steps, k, row, width)
 }
 
@@ -70,16 +70,16 @@ pub fn step_at(
     let demand = &mut demand_room[..narrow];
     let mut room = [0u32; 325];
     let row = &mut room[..wide];
-    unpacked::step_rows(demands, recorded, links, steps, width, k, demand, row);
+    file_rows::inner::step_rows(demands, recorded, links, steps, width, k, demand, row);
     let mut after_room = [0u32; 325];
     let after = &mut after_room[..wide];
-    unpacked::state_row(recorded, links, steps, width, k + 1, after);
+    file_rows::inner::state_row(recorded, links, steps, width, k + 1, after);
     convert_rows::inner::rows::step_row(
         k,
         corridor,
         links,
         demand,
-        unpacked::downstream(demands, links, steps, k),
+        file_rows::inner::downstream(demands, links, steps, k),
         row,
         after,
         width,
@@ -94,6 +94,6 @@ pub fn cost_at(links: usize, steps: usize, recorded: &[u8], width: usize, k: usi
     let wide = scans::state_words(links, width);
     let mut room = [0u32; 325];
     let row = &mut room[..wide];
-    unpacked::state_row(recorded, links, steps, width, k + 1, row);
+    file_rows::inner::state_row(recorded, links, steps, width, k + 1, row);
     simulate_rows::inner::row_cost(links, row, width)
 }

@@ -12,10 +12,10 @@ ghost use Rattle.lists.specs.Scans.{demandsRefusal};
 ghost use Rattle.convert.specs.Refusals.{costFault, judged};
 ghost use Rattle.convert_rows.specs.Rows.{bareRoad};
 ghost use Rattle.convert.specs.Rows.{fixedRefusal, stepsRefusal};
-ghost use Rattle.files.specs.Files.{demandsCount, demandsIn, recordIn};
-ghost use Rattle.files.specs.Fits.{Holds, FilesReady};
+ghost use Rattle.file_rows.specs.Words.{demandsCount, demandsIn, recordIn};
+ghost use Rattle.file_rows.specs.Rows.{Holds};
+ghost use Rattle.files.specs.Fits.{FilesReady};
 use crate::inner::rows;
-use faults::inner::records;
 use lists::inner::scans;
 use payload::inner::place;
 use tables::Answer;
@@ -119,7 +119,7 @@ fn scan_cost(links: usize, steps: usize, recorded: &[u8], width: usize) -> Answe
     let at = scans::table_length(steps + 1, wide);
     let low = place::word_of(recorded, at);
     let high = place::word_of(recorded, at + 1);
-    refusal(records::total_fault(total, low, high), 0, 0)
+    refusal(record_faults::inner::total_fault(total, low, high), 0, 0)
 }
 
 // The first refusal of 7 to 13.

@@ -13,7 +13,6 @@ ghost use Rattle.lists.specs.Fits.{CorridorFits, NodeIn};
 ghost use Rattle.lists.specs.declared.inner.scans.NodeTest.the-variants.{Ramp};
 use crate::inner::identifiers;
 use crate::inner::words;
-use faults::inner::lists;
 use road::Units;
 use tables::Answer;
 use tables::is_refused;
@@ -136,7 +135,7 @@ fn ramp_number(corridor: &[u32], links: usize, i: usize) -> u32
     let identifier = words::identifier_at(corridor, links, i);
     let ramp = words::ramp_at(corridor, links, i);
     let fresh = identifiers::fresh(corridor, links, i);
-    lists::ramp_fault(i == links, identifier, ramp, fresh)
+    faults::inner::ramp_fault(i == links, identifier, ramp, fresh)
 }
 
 // Refusal 4 at node i.
@@ -148,7 +147,7 @@ fn start_number(corridor: &[u32], links: usize, i: usize) -> u32
     let link = words::link_at(corridor, links, i);
     let ramp = words::ramp_at(corridor, links, i);
     let start = words::start_at(corridor, links, i);
-    lists::start_fault(link, ramp, start)
+    faults::inner::start_fault(link, ramp, start)
 }
 
 // Refusal 5 at node i, in a row of the demands.
@@ -156,7 +155,7 @@ fn demand_number(links: usize, row: &[u32], downstream: Units, i: usize) -> u32
     requires { ⌜ NodeIn 2 (now row) i ⌝ }
     ensures { λ r. ⌜ r ≡ demandFault links i (getD (now (row .entry)) (i * 2 + 0) 0) (getD (now (row .entry)) (i * 2 + 1) 0) (downstream .0) ⌝ }
 {
-    lists::demand_fault(
+    faults::inner::demand_fault(
         links,
         i,
         words::arrivals_at(row, i).0,
@@ -173,7 +172,7 @@ fn plan_number(corridor: &[u32], links: usize, row: &[u32], i: usize) -> u32
 {
     let link = words::link_at(corridor, links, i);
     let ramp = words::ramp_at(corridor, links, i);
-    lists::plan_fault(
+    faults::inner::plan_fault(
         link,
         ramp,
         words::rate_at(row, i).0,
@@ -195,7 +194,7 @@ fn node_number(
     ensures { λ r. ⌜ r ≡ nodeFaultIn test (now (corridor .entry)) links (now (row .entry)) (downstream .0) i ⌝ }
 {
     match test {
-        NodeTest::Link => lists::link_fault(i, words::link_at(corridor, links, i)),
+        NodeTest::Link => faults::inner::link_fault(i, words::link_at(corridor, links, i)),
         NodeTest::Ramp => ramp_number(corridor, links, i),
         NodeTest::Start => start_number(corridor, links, i),
         NodeTest::Demand => demand_number(links, row, downstream, i),

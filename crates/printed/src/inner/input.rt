@@ -5,14 +5,13 @@ ghost use lib.ListN.{drop};
 ghost use Rattle.tables.specs.declared.Answer.the-variants.{Accepted};
 ghost use Rattle.payload.specs.File.{blocksFor};
 ghost use Rattle.block.specs.Kinds.{Told, listLength, fileKind};
-ghost use Rattle.files.specs.Files.{corridorCount};
+ghost use Rattle.file_rows.specs.Words.{corridorCount};
 ghost use Rattle.printed.specs.Input.{linksIn, stepsIn, demandsBlock, demandsKind, inputAnswer};
 ghost use Rattle.printed.specs.Fits.{filesLeft, stepsLeft, Laid};
 use block::Kind;
 use block::inner::calls;
 use block::inner::kinds;
 use files::inner::answers;
-use files::inner::unpacked;
 use payload::inner::reading;
 use payload::inner::words;
 use tables::Answer;
@@ -39,7 +38,7 @@ fn corridor_blocks(input: &[u8], n: u32) -> usize
     requires { ⌜ Told n 1 ⌝ }
     ensures { λ r. ⌜ (r ≡ blocksFor (corridorCount n (now (input .entry)))) × (r ≤ 6) ⌝ }
 {
-    reading::blocks_for(unpacked::corridor_count(n as usize, input))
+    reading::blocks_for(file_rows::inner::corridor_count(n as usize, input))
 }
 
 // The kind of the file that starts at a byte of the input, where `kind` is the oldest of its place; it is this one where the input ends before.

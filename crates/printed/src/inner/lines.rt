@@ -8,14 +8,14 @@ ghost use Rattle.tables.specs.declared.Answer.the-variants.{Accepted};
 ghost use Rattle.lists.specs.Words.{nodeAt, roadOf, traceOf, recordLength};
 ghost use Rattle.lists.specs.Fits.{CorridorFits};
 ghost use Rattle.convert.specs.Convert.{settingAt};
-ghost use Rattle.files.specs.Files.{demandsIn, fileWidth, recordIn};
-ghost use Rattle.files.specs.Fits.{Holds, FilesFit, Accepts, FilesKept};
+ghost use Rattle.file_rows.specs.Words.{demandsIn, fileWidth, recordIn};
+ghost use Rattle.file_rows.specs.Rows.{Holds};
+ghost use Rattle.files.specs.Fits.{FilesFit, Accepts, FilesKept};
 ghost use Rattle.printed.specs.Input.{linksIn, stepsIn, inputAnswer};
 ghost use Rattle.printed.specs.Fits.{statedCost};
 ghost use Rattle.printed.specs.Text.{decimal, spaced, refusedLine, headLine, settingLine, filesLine, planLine};
 use crate::inner::input;
 use crate::inner::text;
-use files::inner::unpacked;
 use lists::inner::scans;
 use lists::inner::words;
 use payload::inner::place;
@@ -48,7 +48,7 @@ fn stated_cost(links: usize, steps: usize, recorded: &[u8]) -> u64
     requires { ⌜ (links ≤ 64) × (steps ≤ 1440) × Holds (recordLength (fileWidth (now recorded)) links steps) (now recorded) ⌝ }
     ensures { λ r. ⌜ r ≡ statedCost links steps (now (recorded .entry)) ⌝ }
 {
-    let width = unpacked::record_width(recorded);
+    let width = file_rows::inner::record_width(recorded);
     let wide = scans::state_words(links, width);
     let at = scans::table_length(steps + 1, wide);
     let low = place::word_of(recorded, at);
@@ -135,8 +135,8 @@ fn setting_of(
     let demand = &mut demand_room[..narrow];
     let mut room = [0u32; 325];
     let row = &mut room[..wide];
-    unpacked::step_rows(demands, recorded, links, steps, width, k, demand, row);
-    let downstream = unpacked::downstream(demands, links, steps, k);
+    file_rows::inner::step_rows(demands, recorded, links, steps, width, k, demand, row);
+    let downstream = file_rows::inner::downstream(demands, links, steps, k);
     convert_rows::inner::plans::setting_at(corridor, links, demand, downstream, row, width, i)
 }
 
@@ -157,11 +157,11 @@ fn files_line(
     ensures { λ r. ⌜ take r (now (out .exit)) ≡ filesLine links steps (now (corridor .entry)) (now (demands .entry)) (now (recorded .entry)) k i ⌝ }
     ensures { λ r. ⌜ Counts r (now (out .exit)) ⌝ }
 {
-    let count = unpacked::corridor_count(links, corridor);
+    let count = file_rows::inner::corridor_count(links, corridor);
     let mut room = [0u32; 716];
     let list = &mut room[..count];
     place::unpack(corridor, 0, list);
-    let width = unpacked::record_width(recorded);
+    let width = file_rows::inner::record_width(recorded);
     let setting = setting_of(list, demands, links, steps, recorded, width, k, i);
     node_line(list, links, i, k as u64, setting, out)
 }

@@ -3,7 +3,8 @@ use native.Mathlib.Omega.{arith}
 use lib.ListN.{length-take}
 use borrow.Author.Needs.{needs}
 use Rattle.lists.proofs.Scans.{row-for}
-use Rattle.files.proofs.Rows.{demand-length, demand-found}
+use Rattle.file_rows.proofs.Rows.{demand-length}
+use Rattle.files.proofs.Rows.{demand-found}
 use Rattle.files.proofs.inner.rows.demand_at.Statement.{statement}
 use Rattle.files.proofs.inner.rows.demand_at.Tie as tie
 

@@ -6,7 +6,7 @@ use Rattle.tables.proofs.First.{Passed}
 use Rattle.tables.proofs.Sets.{scans}
 use Rattle.lists.specs.declared.inner.scans.NodeTest.the-variants.{Demand}
 use Rattle.lists.specs.Scans.{nodeFaultAt}
-use Rattle.files.specs.Files.{demandsIn}
+use Rattle.file_rows.specs.Words.{demandsIn}
 use Rattle.files.proofs.inner.scans.scan_demands.Statement.{statement}
 use Rattle.files.proofs.inner.scans.scan_demands.Tie as tie
 

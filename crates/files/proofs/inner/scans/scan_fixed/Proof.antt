@@ -6,7 +6,7 @@ use Rattle.tables.proofs.First.{Passed}
 use Rattle.tables.proofs.Sets.{scans}
 use Rattle.lists.proofs.Scans.{nodes-stop, nodes-ended}
 use Rattle.convert.specs.Rows.{fixedRowRefusal}
-use Rattle.files.specs.Files.{recordIn}
+use Rattle.file_rows.specs.Words.{recordIn}
 use Rattle.files.proofs.inner.scans.scan_fixed.Statement.{statement}
 use Rattle.files.proofs.inner.scans.scan_fixed.Tie as tie
 

@@ -5,7 +5,7 @@ use borrow.Author.Needs.{needs}
 use Rattle.tables.proofs.First.{Passed}
 use Rattle.tables.proofs.Sets.{scans}
 use Rattle.convert.specs.Rows.{stepRefusal}
-use Rattle.files.specs.Files.{demandsIn, recordIn}
+use Rattle.file_rows.specs.Words.{demandsIn, recordIn}
 use Rattle.files.proofs.inner.scans.scan_steps.Statement.{statement}
 use Rattle.files.proofs.inner.scans.scan_steps.Tie as tie
 

@@ -5,7 +5,7 @@ use Rattle.tables.proofs.Sum.{Summed}
 use Rattle.tables.proofs.Sets.{sums}
 use Rattle.convert.specs.Rows.{stateCostAt}
 use Rattle.convert.proofs.Answers.{cost-summed}
-use Rattle.files.specs.Files.{recordIn}
+use Rattle.file_rows.specs.Words.{recordIn}
 use Rattle.files.proofs.inner.scans.total_cost.Statement.{statement}
 use Rattle.files.proofs.inner.scans.total_cost.Tie as tie
 

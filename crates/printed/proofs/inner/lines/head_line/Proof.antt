@@ -5,8 +5,8 @@ use denote.Ref.{now}
 use lib.ListN.{length}
 use borrow.Author.Needs.{needs}
 use Rattle.lists.specs.Words.{recordLength}
-use Rattle.files.specs.Files.{fileWidth}
-use Rattle.files.specs.Fits.{Holds}
+use Rattle.file_rows.specs.Words.{fileWidth}
+use Rattle.file_rows.specs.Rows.{Holds}
 use Rattle.printed.specs.Text.{planWord}
 use Rattle.printed.proofs.Input.{input-kept, in-order, lent}
 use Rattle.printed.proofs.Text.{head-told}

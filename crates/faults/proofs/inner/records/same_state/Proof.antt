@@ -1,7 +1,0 @@
--- Each test picks the case of `_&&_`.
-use Rattle.tables.proofs.Sets.{tests}
-use Rattle.faults.proofs.inner.records.same_state.Statement.{statement}
-use Rattle.faults.proofs.inner.records.same_state.Tie as tie
-
-pub same-state-spec : {M : Type 1} → statement M
-same-state-spec = tie.close (tie.spec (λ c. search tests) (λ c. search tests))

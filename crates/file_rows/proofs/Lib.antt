@@ -1,0 +1,4 @@
+pub mod Corridors
+pub mod Demands
+pub mod Records
+pub mod Rows
