@@ -1,9 +1,9 @@
 -- A record of kind 3 and the one of kind 7 with the right exits are proved to do the same: they tell one trace, and the exits are as each test asks.
-use Prim.Native.Nat.{ℕ, zero, suc, _+_, _*_, _≤_, _<_}
+use Prim.Native.Nat.{ℕ, zero, suc, _+_, _-_, _*_, _≤_, _<_}
 use mathlib.Core.Bool.{Bool, true, _&&_}
 use mathlib.Core.List.{List, [], _∷_}
 use mathlib.Core.Logic.{⊎-elim}
-use mathlib.Core.Path.{_≡_, refl, sym, ap, ap₂, _∙_}
+use mathlib.Core.Path.{_≡_, refl, sym, ap, ap₂, subst, _∙_}
 use native.Mathlib.Nat.{add-zero}
 use native.Mathlib.Omega.{arith}
 use borrow.Author.Tests.{lt-ltb, le-ltb, eq-eqb}
@@ -13,7 +13,7 @@ use lib.Seq.{getD-append-add}
 use Rattle.tables.specs.Answer.{orElse, refusal, sized, left}
 use Rattle.tables.specs.Grid.{grid, place}
 use Rattle.tables.proofs.First.{firstPlace-same}
-use Rattle.tables.proofs.Grid.{place-fits, grid-length, grid-at}
+use Rattle.tables.proofs.Grid.{place-fits, each-place, grid-length, grid-at}
 use Rattle.tables.proofs.Numbers.{le-or-lt}
 use Rattle.tables.proofs.Tests.{and-iff}
 use Rattle.road.specs.declared.Exit.the-variants.{Unsaid}
@@ -21,7 +21,7 @@ use Rattle.road.specs.Corridor.{Road, Trace, nodes}
 use Rattle.road.specs.Step.{exit}
 use Rattle.road.specs.Run.{junction, next}
 use Rattle.road.specs.Limits.{Limits}
-use Rattle.road.proofs.Rules.{state-eq, flows-eq, exit-unsplit}
+use Rattle.road.proofs.Rules.{state-eq, flows-eq, exit-le, exit-unsplit}
 use Rattle.road.proofs.Same.{SameTraces, junction-same, next-same, cost-same}
 use Rattle.settings.specs.Setting.{settingFor, rateIn, limitIn}
 use Rattle.record_faults.specs.Records.{exitKept, fixedFault, stepFault, totalFault}
@@ -33,6 +33,7 @@ use Rattle.lists.proofs.Sizes.{width-is, record-sized-iff}
 use Rattle.lists.proofs.Words.{plan-same}
 use Rattle.convert.specs.Refusals.{costFault, fixedAt, stepAt, judged}
 use Rattle.convert.specs.Convert.{settingAt, planFor, convertedBy, converted, recordRefusal, checkAnswer, convertAnswer, planLeft}
+use Rattle.payload.specs.Word.{Words}
 use Rattle.files.proofs.Turns.{second-same, sized-same}
 use Rattle.demands.specs.Completed.{completedExit, completedRecordWord, completedRecord, SameRecords}
 
@@ -70,12 +71,16 @@ module _ (road : Road) (words : List ℕ) where
       List·getD-append rows _ 0 _ (rw (grid-length 5 (nodes road) m (completedRecordWord road words)) inside)
       ∙ grid-at 5 (nodes road) m (completedRecordWord road words) k i q 0 (omega arith) (omega arith) hq
 
-  pub full-cost : (q : ℕ) → q < 2 → getD (completedRecord road words) (traceLength 5 (road .links) (road .steps) + q) 0 ≡ getD words (traceLength 4 (road .links) (road .steps) + q) 0
+  -- its last two words, and 0 past them
+  full-tail : (q : ℕ) → getD (completedRecord road words) (traceLength 5 (road .links) (road .steps) + q) 0
+      ≡ getD (getD words (traceLength 4 (road .links) (road .steps)) 0 ∷ getD words (traceLength 4 (road .links) (road .steps) + 1) 0 ∷ []) q 0
   unfolding completedRecord
-  full-cost q h =
+  full-tail q =
       ap (λ (n : ℕ). getD full (n + q) 0) (sym (grid-length 5 (nodes road) (suc (road .steps)) (completedRecordWord road words)))
       ∙ getD-append-add (grid 5 (nodes road) (suc (road .steps)) (completedRecordWord road words)) _ q 0
-      ∙ last q h
+
+  pub full-cost : (q : ℕ) → q < 2 → getD (completedRecord road words) (traceLength 5 (road .links) (road .steps) + q) 0 ≡ getD words (traceLength 4 (road .links) (road .steps) + q) 0
+  full-cost q h = full-tail q ∙ last q h
     where
       at : ℕ
       at = traceLength 4 (road .links) (road .steps)
@@ -97,6 +102,43 @@ module _ (road : Road) (words : List ℕ) where
         state = state-eq _ _ (kept k i 0 hk hi (omega arith)) (kept k i 1 hk hi (omega arith));
         flows = flows-eq _ _ (kept k i 2 hk hi (omega arith)) (kept k i 3 hk hi (omega arith));
       }
+
+  -- where the record's words are of 32 bits and no split is above 65,536, these are too: no exit is above its flow
+  full-word-fits : Words words → ((k i : ℕ) → k < road .steps → i ≤ road .links → road .split k i ≤ 65536)
+      → (k i q : ℕ) → k ≤ road .steps → i ≤ road .links → completedRecordWord road words k i q < 4294967296
+  unfolding completedRecordWord completedExit
+  full-word-fits fits splits k i q hk hi =
+      ⊎-elim
+      (λ (b : 4 ≤ q).
+      ⊎-elim
+      (λ (g : road .steps ≤ k). simp (le-ltb q 4 b, le-ltb k (road .steps) g) (omega arith))
+      (λ (g : k < road .steps).
+      simp (le-ltb q 4 b, lt-ltb k (road .steps) g)
+      (omega (arith, exit-le (getD words (place 4 (nodes road) k i 2) 0) (road .split k i) (splits k i g hi), fits (place 4 (nodes road) k i 2))))
+      (le-or-lt (road .steps) k))
+      (λ (b : q < 4). simp (lt-ltb q 4 b) (fits (place 4 (nodes road) k i q)))
+      (le-or-lt 4 q)
+
+  pub full-fits : Words words → ((k i : ℕ) → k < road .steps → i ≤ road .links → road .split k i ≤ 65536) → Words (completedRecord road words)
+  full-fits fits splits j =
+      ⊎-elim
+      (λ (g : traceLength 5 (road .links) (road .steps) ≤ j). tail (j - traceLength 5 (road .links) (road .steps)) (omega arith))
+      (λ (g : j < traceLength 5 (road .links) (road .steps)).
+      each-place (λ j. getD (completedRecord road words) j 0 < 4294967296) 5 (nodes road) (suc (road .steps))
+      (λ k i q hk hi hq. rw (full-at k i q (omega arith) (omega arith) hq) (full-word-fits fits splits k i q (omega arith) (omega arith)))
+      j g)
+      (le-or-lt (traceLength 5 (road .links) (road .steps)) j)
+    where
+      at : ℕ
+      at = traceLength 4 (road .links) (road .steps)
+
+      word : (q : ℕ) → getD (getD words at 0 ∷ getD words (at + 1) 0 ∷ []) q 0 < 4294967296
+      word zero = fits at
+      word (suc zero) = fits (at + 1)
+      word (suc (suc q)) = omega arith
+
+      tail : (q : ℕ) → traceLength 5 (road .links) (road .steps) + q ≡ j → getD (completedRecord road words) j 0 < 4294967296
+      tail q e = subst (λ (n : ℕ). getD (completedRecord road words) n 0 < 4294967296) e (rw (full-tail q) (word q))
 
   -- what it says of an exit, and what the other does
   full-says : (k i flow : ℕ) → k ≤ road .steps → i ≤ road .links → completedExit road words k i ≡ flow → exitKept (exitsOf 5 road (completedRecord road words) k i) flow ≡ true

@@ -4,7 +4,7 @@ use Rattle.demands.proofs.Completed.{demands-alike}
 use Rattle.demands.proofs.CompletedFiles.{demands-files}
 use Rattle.demands.proofs.CompletedCorridor.{corridor-alike}
 use Rattle.demands.proofs.CompletedCorridorFiles.{corridor-files}
-use Rattle.demands.proofs.CompletedRecord.{record-completes}
+use Rattle.demands.proofs.CompletedRecord.{full-fits, record-completes}
 use Rattle.demands.proofs.CompletedRecordFiles.{record-files}
 
 pub completes : Completes
@@ -16,4 +16,5 @@ completes =
       corridor-on-files = corridor-files;
       record-on-lists = record-completes;
       record-on-files = record-files;
+      right-exits-fit = full-fits;
     }

@@ -2,7 +2,7 @@
 -- and that of kind 10 with F and J for each node's drop (request 07); a record of kind 3, and that of kind 7 with the right exits (request 04).
 -- They have the same answers and the same outputs in every call that computes with them. The calls on a slice of nodes are those on lists at the
 -- nodes' words.
-use Prim.Native.Nat.{ℕ, suc, _+_, _*_}
+use Prim.Native.Nat.{ℕ, suc, _+_, _*_, _≤_, _<_}
 use mathlib.Core.Bool.{cond}
 use mathlib.Core.List.{List, [], _∷_, _++_}
 use mathlib.Core.Path.{_≡_}
@@ -78,9 +78,11 @@ pub record Completes : Type 0 where
       → SameOnLists corridor demands (completedCorridor (linksOf corridor) corridor) demands
   pub corridor-on-files : (n k : ℕ) (corridor demands recorded : List ℕ) → Words corridor → length corridor ≡ corridorLength 9 n
       → SameOnFiles n k (fileOf 1 corridor) demands recorded (fileOf 10 (completedCorridor n corridor)) demands recorded
-  -- a record's file that can be made has words of 32 bits; within limits the right exits are such
   pub record-on-lists : (corridor demands words : List ℕ) → length words ≡ recordLength 4 (linksOf corridor) (stepsOf demands)
       → SameRecords corridor demands words (completedRecord (roadOf corridor demands) words)
+  -- a record's file that can be made has words of 32 bits, and where no split is above 65,536 the right exits are such
   pub record-on-files : (n k : ℕ) (corridor demands words : List ℕ) → Words words → Words (completedRecord (roadOf (corridorIn n corridor) (demandsIn n k demands)) words)
       → length words ≡ recordLength 4 n k
       → SameOnFiles n k corridor demands (fileOf 3 words) corridor demands (fileOf 7 (completedRecord (roadOf (corridorIn n corridor) (demandsIn n k demands)) words))
+  pub right-exits-fit : (road : Road) (words : List ℕ) → Words words → ((k i : ℕ) → k < road .steps → i ≤ road .links → road .split k i ≤ 65536)
+      → Words (completedRecord road words)
