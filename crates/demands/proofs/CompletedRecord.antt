@@ -1,19 +1,18 @@
 -- A record of kind 3 and the one of kind 7 with the right exits are proved to do the same: they tell one trace, and the exits are as each test asks.
-use Prim.Native.Nat.{ℕ, zero, suc, _+_, _-_, _*_, _≤_, _<_}
+use Prim.Native.Nat.{ℕ, zero, suc, _+_, _≤_, _<_}
 use mathlib.Core.Bool.{Bool, true, _&&_}
 use mathlib.Core.List.{List, [], _∷_}
 use mathlib.Core.Logic.{⊎-elim}
-use mathlib.Core.Path.{_≡_, refl, sym, ap, ap₂, subst, _∙_}
+use mathlib.Core.Path.{_≡_, refl, sym, ap, ap₂, _∙_}
 use native.Mathlib.Nat.{add-zero}
 use native.Mathlib.Omega.{arith}
 use borrow.Author.Tests.{lt-ltb, le-ltb, eq-eqb}
 use lib.Dec.{eqb}
-use lib.ListN.{length, getD, length-append, List·getD-append}
-use lib.Seq.{getD-append-add}
+use lib.ListN.{length, getD, length-append}
 use Rattle.tables.specs.Answer.{orElse, refusal, sized, left}
 use Rattle.tables.specs.Grid.{grid, place}
 use Rattle.tables.proofs.First.{firstPlace-same}
-use Rattle.tables.proofs.Grid.{place-fits, each-place, grid-length, grid-at}
+use Rattle.tables.proofs.Grid.{grid-length, before-rest, at-rest, each-with-rest}
 use Rattle.tables.proofs.Numbers.{le-or-lt}
 use Rattle.tables.proofs.Tests.{and-iff}
 use Rattle.road.specs.declared.Exit.the-variants.{Unsaid}
@@ -64,23 +63,11 @@ module _ (road : Road) (words : List ℕ) where
 
   pub full-at : (k i q : ℕ) → k ≤ road .steps → i ≤ road .links → q < 5 → getD (completedRecord road words) (place 5 (nodes road) k i q) 0 ≡ completedRecordWord road words k i q
   unfolding completedRecord
-  full-at k i q hk hi hq =
-      let m : ℕ = suc (road .steps) in
-      let rows : List ℕ = grid 5 (nodes road) m (completedRecordWord road words) in
-      let inside : place 5 (nodes road) k i q < m * (nodes road * 5) = place-fits 5 (nodes road) m k i q (omega arith) (omega arith) hq in
-      List·getD-append rows _ 0 _ (rw (grid-length 5 (nodes road) m (completedRecordWord road words)) inside)
-      ∙ grid-at 5 (nodes road) m (completedRecordWord road words) k i q 0 (omega arith) (omega arith) hq
-
-  -- its last two words, and 0 past them
-  full-tail : (q : ℕ) → getD (completedRecord road words) (traceLength 5 (road .links) (road .steps) + q) 0
-      ≡ getD (getD words (traceLength 4 (road .links) (road .steps)) 0 ∷ getD words (traceLength 4 (road .links) (road .steps) + 1) 0 ∷ []) q 0
-  unfolding completedRecord
-  full-tail q =
-      ap (λ (n : ℕ). getD full (n + q) 0) (sym (grid-length 5 (nodes road) (suc (road .steps)) (completedRecordWord road words)))
-      ∙ getD-append-add (grid 5 (nodes road) (suc (road .steps)) (completedRecordWord road words)) _ q 0
+  full-at k i q hk hi hq = before-rest 5 (nodes road) (suc (road .steps)) (completedRecordWord road words) _ k i q (omega arith) (omega arith) hq
 
   pub full-cost : (q : ℕ) → q < 2 → getD (completedRecord road words) (traceLength 5 (road .links) (road .steps) + q) 0 ≡ getD words (traceLength 4 (road .links) (road .steps) + q) 0
-  full-cost q h = full-tail q ∙ last q h
+  unfolding completedRecord
+  full-cost q h = at-rest 5 (nodes road) (suc (road .steps)) (completedRecordWord road words) _ q ∙ last q h
     where
       at : ℕ
       at = traceLength 4 (road .links) (road .steps)
@@ -120,14 +107,11 @@ module _ (road : Road) (words : List ℕ) where
       (le-or-lt 4 q)
 
   pub full-fits : Words words → ((k i : ℕ) → k < road .steps → i ≤ road .links → road .split k i ≤ 65536) → Words (completedRecord road words)
-  full-fits fits splits j =
-      ⊎-elim
-      (λ (g : traceLength 5 (road .links) (road .steps) ≤ j). tail (j - traceLength 5 (road .links) (road .steps)) (omega arith))
-      (λ (g : j < traceLength 5 (road .links) (road .steps)).
-      each-place (λ j. getD (completedRecord road words) j 0 < 4294967296) 5 (nodes road) (suc (road .steps))
-      (λ k i q hk hi hq. rw (full-at k i q (omega arith) (omega arith) hq) (full-word-fits fits splits k i q (omega arith) (omega arith)))
-      j g)
-      (le-or-lt (traceLength 5 (road .links) (road .steps)) j)
+  unfolding completedRecord
+  full-fits fits splits =
+      each-with-rest 5 (nodes road) (suc (road .steps)) (completedRecordWord road words) _ (λ word. word < 4294967296)
+      (λ k i q hk hi hq. full-word-fits fits splits k i q (omega arith) (omega arith))
+      word
     where
       at : ℕ
       at = traceLength 4 (road .links) (road .steps)
@@ -136,9 +120,6 @@ module _ (road : Road) (words : List ℕ) where
       word zero = fits at
       word (suc zero) = fits (at + 1)
       word (suc (suc q)) = omega arith
-
-      tail : (q : ℕ) → traceLength 5 (road .links) (road .steps) + q ≡ j → getD (completedRecord road words) j 0 < 4294967296
-      tail q e = subst (λ (n : ℕ). getD (completedRecord road words) n 0 < 4294967296) e (rw (full-tail q) (word q))
 
   -- what it says of an exit, and what the other does
   full-says : (k i flow : ℕ) → k ≤ road .steps → i ≤ road .links → completedExit road words k i ≡ flow → exitKept (exitsOf 5 road (completedRecord road words) k i) flow ≡ true

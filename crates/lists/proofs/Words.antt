@@ -1,18 +1,18 @@
 -- Laws of the word lists of a plan and of a record: their lengths, and that what is written is read back and what is read is written back.
-use Prim.Native.Nat.{ℕ, zero, suc, _+_, _-_, _*_, _/_, _%_, _≤_, _<_}
+use Prim.Native.Nat.{ℕ, zero, suc, _+_, _/_, _%_, _≤_, _<_}
 use mathlib.Core.List.{List, _++_}
 use mathlib.Core.Bool.{Bool, true, false, cond}
 use mathlib.Core.Path.{_≡_, refl, sym, ap, subst, _∙_}
 use mathlib.Core.Logic.{⊎-elim}
 use native.Mathlib.Nat.{add-zero}
 use native.Mathlib.Omega.{arith}
-use lib.ListN.{length, getD, length-append, List·getD-append}
-use lib.Seq.{getD-append-add, ext-getD}
+use lib.ListN.{length, getD, length-append}
+use lib.Seq.{ext-getD}
 use borrow.Author.Tests.{lt-ltb, ltb-true, eq-eqb, eqb-true}
 use lib.Dec.{ltb}
 use Rattle.tables.specs.Grid.{place}
 use Rattle.tables.proofs.Numbers.{le-or-lt}
-use Rattle.tables.proofs.Grid.{place-fits, each-place, grid-length, grid-at, grid-is, grid-same}
+use Rattle.tables.proofs.Grid.{each-place, grid-length, grid-at, grid-is, grid-same, before-rest, at-rest, each-with-rest}
 use Rattle.road.specs.declared.Exit.the-variants.{Unsaid, Said}
 use Rattle.road.specs.Corridor.{NodeState, Road, Plan, Flows, Trace, nodes}
 use Rattle.road.specs.Step.{exit}
@@ -95,10 +95,8 @@ pub record CostWords (width : ℕ) (road : Road) (words : List ℕ) (total : ℕ
 
 module _ (width : ℕ) (road : Road) (trace : Trace) where
   at-cost : (q : ℕ) → getD (recordWords width road trace) (traceLength width (road .links) (road .steps) + q) 0 ≡ getD (lowHigh (cost road trace)) q 0
-  unfolding recordWords
-  at-cost q =
-      ap (λ (n : ℕ). getD (recordWords width road trace) (n + q) 0) (sym (trace-length width road trace))
-      ∙ getD-append-add (traceWords width road trace) (lowHigh (cost road trace)) q 0
+  unfolding recordWords traceWords
+  at-cost q = at-rest width (nodes road) (suc (road .steps)) (traceWord road trace) (lowHigh (cost road trace)) q
 
   pub record-cost : CostWords width road (recordWords width road trace) (cost road trace)
   record-cost =
@@ -110,10 +108,7 @@ module _ (width : ℕ) (road : Road) (trace : Trace) where
   pub record-at : (k i q : ℕ) → k ≤ road .steps → i ≤ road .links → q < width → getD (recordWords width road trace) (place width (nodes road) k i q) 0 ≡ traceWord road trace k i q
   unfolding recordWords traceWords
   record-at k i q hk hi hq =
-      let m : ℕ = suc (road .steps) in
-      let inside : place width (nodes road) k i q < m * (nodes road * width) = place-fits width (nodes road) m k i q (omega arith) (omega arith) hq in
-      List·getD-append (traceWords width road trace) (lowHigh (cost road trace)) 0 _ (rw (trace-length width road trace) inside)
-      ∙ grid-at width (nodes road) m (traceWord road trace) k i q 0 (omega arith) (omega arith) hq
+      before-rest width (nodes road) (suc (road .steps)) (traceWord road trace) (lowHigh (cost road trace)) k i q (omega arith) (omega arith) hq
 
   -- what is written is read back
   pub record-read : Width width → SameTraces road (traceOf width road (recordWords width road trace)) trace
@@ -132,22 +127,16 @@ module _ (width : ℕ) (road : Road) (trace : Trace) where
   -- what holds of the words of states 0..K, of the cost's two words and of 0 holds of each word
   pub record-each : (P : ℕ → Type 0) → ((k i q : ℕ) → k ≤ road .steps → i ≤ road .links → q < width → P (traceWord road trace k i q))
       → P (cost road trace % 4294967296) → P (cost road trace / 4294967296) → P 0 → (j : ℕ) → P (getD (recordWords width road trace) j 0)
-  record-each P inside low high past j =
-      ⊎-elim
-      (λ (g : traceLength width (road .links) (road .steps) ≤ j). tail (j - traceLength width (road .links) (road .steps)) (omega arith))
-      (λ (g : j < traceLength width (road .links) (road .steps)).
-      each-place (λ j. P (getD (recordWords width road trace) j 0)) width (nodes road) (suc (road .steps))
-      (λ k i q hk hi hq. subst P (sym (record-at k i q (omega arith) (omega arith) hq)) (inside k i q (omega arith) (omega arith) hq))
-      j g)
-      (le-or-lt (traceLength width (road .links) (road .steps)) j)
+  unfolding recordWords traceWords
+  record-each P inside low high past =
+      each-with-rest width (nodes road) (suc (road .steps)) (traceWord road trace) (lowHigh (cost road trace)) P
+      (λ k i q hk hi hq. inside k i q (omega arith) (omega arith) hq)
+      word
     where
       word : (q : ℕ) → P (getD (lowHigh (cost road trace)) q 0)
       word zero = low
       word (suc zero) = high
       word (suc (suc q)) = past
-
-      tail : (q : ℕ) → traceLength width (road .links) (road .steps) + q ≡ j → P (getD (recordWords width road trace) j 0)
-      tail q e = subst (λ (n : ℕ). P (getD (recordWords width road trace) n 0)) e (subst P (sym (at-cost q)) (word q))
 
 -- a list whose words are right is the trace's record
 pub record-is : (width : ℕ) (road : Road) (trace : Trace) (words : List ℕ) → length words ≡ recordLength width (road .links) (road .steps)

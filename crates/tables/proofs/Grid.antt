@@ -1,15 +1,17 @@
 -- Laws of rows of nodes of c words, and the invariants of the loops that write them: node by node, and row by row.
-use mathlib.Core.List.{List, [], _∷_}
+use mathlib.Core.List.{List, [], _∷_, _++_}
+use mathlib.Core.Logic.{⊎-elim}
 use mathlib.Core.Path.{_≡_, refl, sym, ap, _∙_, subst}
 use Prim.Native.Nat.{ℕ, zero, suc, _+_, _-_, _*_, _/_, _%_, _≤_, _<_}
 use native.Mathlib.Nat.{zero-mul, add-zero, zero-add, mod-lt, div-add-mod', div-lt-iff-lt-mul}
 use native.Mathlib.Omega.{arith}
 use borrow.Rule.Slice.PartMut.{putMid}
 use lib.Arith.{digits-div, digits-mod, digits-lt}
-use lib.ListN.{length, getD, set}
+use lib.ListN.{length, getD, set, List·getD-append}
+use lib.Seq.{getD-append-add}
 use Rattle.tables.specs.Tabulate.{tabulate}
 use Rattle.tables.specs.Grid.{cell, rowWords, grid, place}
-use Rattle.tables.proofs.Numbers.{row-fits}
+use Rattle.tables.proofs.Numbers.{row-fits, le-or-lt}
 use Rattle.tables.proofs.Tabulate.{tabulate-length, tabulate-at, tabulate-is, tabulate-same, Filled, filled-begun, filled-stored, filled-ended, filled-lent}
 
 -- ---- words by one index
@@ -80,6 +82,31 @@ grid-is c n m word l e h =
 
 pub grid-same : (c n m : ℕ) (v w : ℕ → ℕ → ℕ → ℕ) → ((k i q : ℕ) → k < m → i < n → q < c → v k i q ≡ w k i q) → grid c n m v ≡ grid c n m w
 grid-same c n m v w h = grid-is c n m w (grid c n m v) (grid-length c n m v) (λ k i q a b t. grid-at c n m v k i q 0 a b t ∙ h k i q a b t)
+
+-- ---- a grid with other words after it, as a record has its cost
+
+module _ (c n m : ℕ) (word : ℕ → ℕ → ℕ → ℕ) (rest : List ℕ) where
+  pub before-rest : (k i q : ℕ) → k < m → i < n → q < c → getD (grid c n m word ++ rest) (place c n k i q) 0 ≡ word k i q
+  before-rest k i q a b h =
+      List·getD-append (grid c n m word) rest 0 _ (rw (grid-length c n m word) (place-fits c n m k i q a b h)) ∙ grid-at c n m word k i q 0 a b h
+
+  pub at-rest : (q : ℕ) → getD (grid c n m word ++ rest) (m * (n * c) + q) 0 ≡ getD rest q 0
+  at-rest q = ap (λ (x : ℕ). getD (grid c n m word ++ rest) (x + q) 0) (sym (grid-length c n m word)) ∙ getD-append-add (grid c n m word) rest q 0
+
+  -- what holds of the words of the grid and of those after it, 0 past their end, holds of each word
+  pub each-with-rest : (P : ℕ → Type 0) → ((k i q : ℕ) → k < m → i < n → q < c → P (word k i q)) → ((q : ℕ) → P (getD rest q 0))
+      → (j : ℕ) → P (getD (grid c n m word ++ rest) j 0)
+  each-with-rest P inside after j =
+      ⊎-elim
+      (λ (g : m * (n * c) ≤ j). past (j - m * (n * c)) (omega arith))
+      (λ (g : j < m * (n * c)).
+      each-place (λ x. P (getD (grid c n m word ++ rest) x 0)) c n m
+      (λ k i q a b h. subst P (sym (before-rest k i q a b h)) (inside k i q a b h))
+      j g)
+      (le-or-lt (m * (n * c)) j)
+    where
+      past : (q : ℕ) → m * (n * c) + q ≡ j → P (getD (grid c n m word ++ rest) j 0)
+      past q e = subst (λ (x : ℕ). P (getD (grid c n m word ++ rest) x 0)) e (subst P (sym (at-rest q)) (after q))
 
 -- ---- as a loop's invariant: l is d with the first i of its n nodes, of c words each, those of `word`
 
