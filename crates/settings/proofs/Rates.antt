@@ -5,16 +5,19 @@ use mathlib.Core.Path.{_≡_, refl, sym, ap, subst, _∙_}
 use mathlib.Core.Logic.{_↔_, ⊎-elim}
 use native.Mathlib.Omega.{arith}
 use borrow.Author.Tests.{leb-true, eqb-true, le-leb, eq-eqb}
+use Rattle.tables.specs.declared.Halved.{Halved}
 use Rattle.tables.specs.Least.{least}
 use Rattle.tables.proofs.Numbers.{le-or-lt, not-both}
 use Rattle.tables.proofs.Tests.{and-iff}
 use Rattle.tables.proofs.Least.{least-bound, least-below, least-fails, Searchable, searched-passes, searched-fails}
+use Rattle.tables.proofs.Halving.{halving-rate}
 use Rattle.road.specs.Corridor.{Flows}
 use Rattle.road.specs.Step.{Junction}
 use Rattle.road.proofs.Rules.{flows-eq, main-falls, ramp-rises}
 use Rattle.settings.specs.declared.Found.{Found}
 use Rattle.settings.specs.declared.Found.the-variants.{Rate, Nothing}
-use Rattle.settings.specs.Rate.{fullFlows, gives, reaches, candidate, rateFor}
+use Rattle.settings.specs.declared.Search.{Search}
+use Rattle.settings.specs.Rate.{fullFlows, gives, reaches, candidate, search, rateFor}
 use Rattle.settings.specs.Share.{Gives, Finds}
 
 module _ (junction : Junction) (wanted : Flows) where
@@ -102,20 +105,45 @@ module _ (junction : Junction) (wanted : Flows) where
   rate-iff found =
       (λ e. subst (λ (x : Found). Finds junction wanted x) e rate-finds, λ h. finds-once (rateFor junction wanted) found rate-finds h)
 
-  -- ---- the one rate left by halving decides
+  -- ---- halving comes to the same
 
-  pub candidate-found : (rate : ℕ) → rate ≡ candidate junction wanted → gives junction wanted rate ≡ true → Rate (record { 0 = rate }) ≡ rateFor junction wanted
-  unfolding rateFor candidate
-  candidate-found rate q e =
+  -- the one rate left is the smallest that is high enough, or C
+  pub candidate-is : candidate junction wanted .rate ≡ least (reaches junction wanted) (junction .ramp .capacity)
+  unfolding candidate
+  candidate-is = halving-rate (reaches junction wanted) (searchable .upward) (junction .ramp .capacity)
+
+  -- by whether it gives the flows
+  decides : (rate : ℕ) (t : Bool) → rate ≡ least (reaches junction wanted) (junction .ramp .capacity) → gives junction wanted rate ≡ t → cond t (Rate (record { 0 = rate })) Nothing ≡ rateFor junction wanted
+  unfolding rateFor
+  decides rate true q e =
       let t : least (gives junction wanted) (junction .ramp .capacity) ≡ rate =
       searched-passes _ _ _ searchable (subst (λ (x : ℕ). gives junction wanted x ≡ true) q e) ∙ sym q in
       rw (t, e)
-
-  pub candidate-none : (rate : ℕ) → rate ≡ candidate junction wanted → gives junction wanted rate ≡ false → Nothing ≡ rateFor junction wanted
-  unfolding candidate
-  candidate-none rate q e =
+  decides rate false q e =
       sym
       (rate-iff Nothing .1
       (λ other h g.
       not-both (gives junction wanted other) (flows-gives other g)
       (searched-fails _ _ _ searchable (subst (λ (x : ℕ). gives junction wanted x ≡ false) q e) other h)))
+
+  -- "The rate found, and the finding that there is none, are those of document 01."
+  pub search-found : search junction wanted .found ≡ rateFor junction wanted
+  unfolding search
+  search-found = decides (candidate junction wanted .rate) (gives junction wanted (candidate junction wanted .rate)) candidate-is refl
+
+  -- as the code has it: `last` is the one left, t whether it gives the flows
+  pub search-as : (last : Halved) (t : Bool) → last ≡ candidate junction wanted → t ≡ gives junction wanted (last .rate)
+      → record { found = cond t (Rate (record { 0 = last .rate })) Nothing; tries = last .tries } ≡ search junction wanted
+  unfolding search
+  search-as last t e q =
+      (λ z. record { found = cond (q z) (Rate (record { 0 = last .rate })) Nothing; tries = last .tries })
+      ∙ (λ z. record { found = cond (gives junction wanted (e z .rate)) (Rate (record { 0 = e z .rate })) Nothing; tries = e z .tries })
+
+  pub found-told : (s : Search) → s ≡ search junction wanted → s .found ≡ rateFor junction wanted
+  found-told s e = ap (λ (x : Search). x .found) e ∙ search-found
+
+-- no rate sends more on the mainline than rate 0, nor less from the ramp
+pub first-reaches : (junction : Junction) (rate : ℕ) → reaches junction (fullFlows junction 0) rate ≡ true
+first-reaches junction rate =
+    facts-reaches junction (fullFlows junction 0) rate
+    (record { main = falls junction (fullFlows junction 0) 0 rate (omega arith); ramp = rises junction (fullFlows junction 0) 0 rate (omega arith) })

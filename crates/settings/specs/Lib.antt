@@ -1,4 +1,6 @@
 pub mod Rate
+pub mod Tries
+pub mod Tested
 pub mod Setting
 pub mod Share
 pub mod Cases

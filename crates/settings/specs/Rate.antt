@@ -2,11 +2,14 @@
 use Prim.Native.Nat.{ℕ}
 use mathlib.Core.Bool.{Bool, cond, _&&_}
 use lib.Dec.{leb, eqb}
+use Rattle.tables.specs.declared.Halved.{Halved}
 use Rattle.tables.specs.Least.{least}
+use Rattle.tables.specs.Halving.{halving}
 use Rattle.road.specs.Corridor.{Flows}
 use Rattle.road.specs.Step.{Junction, flowsWith}
 use Rattle.settings.specs.declared.Found.{Found}
 use Rattle.settings.specs.declared.Found.the-variants.{Rate, Nothing}
+use Rattle.settings.specs.declared.Search.{Search}
 
 -- rules 1 to 5 at full speed
 unfoldable pub fullFlows : Junction → ℕ → Flows
@@ -22,9 +25,17 @@ unfoldable pub reaches : Junction → Flows → ℕ → Bool
 reaches junction wanted rate =
     leb (fullFlows junction rate .main) (wanted .main) && leb (wanted .ramp) (fullFlows junction rate .ramp)
 
--- the smallest rate that is high enough, or C
-unfoldable pub candidate : Junction → Flows → ℕ
-candidate junction wanted = least (reaches junction wanted) (junction .ramp .capacity)
+-- request 02: the rates 0 to C halved
+unfoldable pub candidate : Junction → Flows → Halved
+candidate junction wanted = halving (reaches junction wanted) (junction .ramp .capacity)
+
+-- "at last it tries the one left": it is the rate found where it gives f and r, and none is where it does not
+unfoldable pub search : Junction → Flows → Search
+search junction wanted =
+    record {
+      found = cond (gives junction wanted (candidate junction wanted .rate)) (Rate (record { 0 = candidate junction wanted .rate })) Nothing;
+      tries = candidate junction wanted .tries;
+    }
 
 -- the smallest of 0..c that passes, if one does
 abbrev pub smallest : (ℕ → Bool) → ℕ → Found

@@ -1,15 +1,21 @@
 // The search for a rate by halving, and the setting of a node.
 ghost use mathlib.Core.Path.{_≡_};
-ghost use Prim.Native.Nat.{_+_, _-_, _/_, _≤_, _<_};
+ghost use Prim.Native.Nat.{_+_, _≤_, _<_, min};
+ghost use lib.Dec.{leb};
+ghost use Rattle.tables.specs.Halving.{halving};
+ghost use Rattle.road.specs.Step.{passed};
 ghost use Rattle.road.specs.Values.{junctionOf, flowsOf};
-ghost use Rattle.settings.specs.Rate.{fullFlows, reaches, gives, candidate, rateFor};
+ghost use Rattle.settings.specs.Rate.{fullFlows, gives, candidate, search};
+ghost use Rattle.settings.specs.Tested.{tested, Offered};
 ghost use Rattle.settings.specs.Setting.{heldLimit, settingFor};
 use crate::Found;
+use crate::Search;
 use crate::Setting;
 use road::Flows;
 use road::Junction;
 use road::Speed;
 use road::Units;
+use tables::Halved;
 
 // The flows at full speed.
 fn full_flows(junction: Junction, rate: Units) -> Flows
@@ -19,16 +25,85 @@ fn full_flows(junction: Junction, rate: Units) -> Flows
     road::inner::flows_with(junction, rate, junction.link.full_speed)
 }
 
-// Whether the rate is high enough: the mainline flow is down to the one wanted, and the ramp flow up to it.
-pub fn reaches(junction: Junction, wanted: Flows, rate: Units) -> bool
-    requires { ⌜ junction .split .0 ≤ 65536 ⌝ }
-    ensures { λ r. ⌜ r ≡ reaches (junctionOf junction) (flowsOf wanted) (rate .0) ⌝ }
+// The smaller of two numbers.
+fn smaller(a: u32, b: u32) -> u32
+    ensures { λ r. ⌜ r ≡ min a b ⌝ }
 {
-    let x = full_flows(junction, rate);
-    if x.main.0 <= wanted.main.0 {
-        wanted.ramp.0 <= x.ramp.0
-    } else {
-        false
+    if a <= b { a } else { b }
+}
+
+// Whether no more of D than f passes, where D is more than f: D × S / R ≤ f exactly where D × S < (f + 1) × R, and (f + 1) × R may have more
+// than 64 bits.
+fn main_down(sent: u32, beside: u32, supply: u32, wanted: u32, offered: u32) -> bool
+    requires { ⌜ wanted < sent ⌝ }
+    ensures { λ r. ⌜ r ≡ leb (passed sent (beside + offered) supply) wanted ⌝ }
+{
+    let all = road::inner::product(sent, supply);
+    let part = road::inner::product(wanted + 1, beside);
+    if all < part {
+        return true;
+    }
+    let more = road::inner::product(wanted + 1, offered);
+    if all - part < more {
+        return true;
+    }
+    false
+}
+
+// Whether no less of the offer than r passes: r ≤ d × S / R exactly where r × R ≤ d × S.
+fn ramp_up(beside: u32, supply: u32, wanted: u32, offered: u32) -> bool
+    requires { ⌜ Offered beside supply wanted offered ⌝ }
+    ensures { λ r. ⌜ r ≡ leb wanted (passed offered (beside + offered) supply) ⌝ }
+{
+    if supply < wanted {
+        return false;
+    }
+    let part = road::inner::product(wanted, beside);
+    let more = road::inner::product(offered, supply - wanted);
+    if part <= more {
+        return true;
+    }
+    false
+}
+
+// One try: whether the rate is high enough.
+fn tested(sent: u32, beside: u32, supply: u32, most: u32, main: u32, ramp: u32, rate: u32) -> bool
+    ensures { λ r. ⌜ r ≡ tested sent beside supply most main ramp rate ⌝ }
+{
+    let offered = smaller(most, rate);
+    if sent <= main {
+        if offered < ramp {
+            return false;
+        }
+        return ramp_up(beside, supply, ramp, offered);
+    }
+    if main_down(sent, beside, supply, main, offered) {
+        return ramp_up(beside, supply, ramp, offered);
+    }
+    false
+}
+
+// The rates 0 to `top`, halved, with the tries counted: `low` and `more` above it are left. How many are left does not wait for the middle, so
+// that one try begins while the one before it ends.
+fn halved(sent: u32, beside: u32, supply: u32, most: u32, main: u32, ramp: u32, top: u32) -> Halved
+    ensures { λ r. ⌜ r ≡ halving (tested sent beside supply most main ramp) top ⌝ }
+{
+    let mut low: u32 = 0;
+    let mut more = top;
+    let mut tries: u32 = 0;
+    while 0 < more {
+        let middle = low + more / 2;
+        tries += 1;
+        if tested(sent, beside, supply, most, main, ramp, middle) {
+            more = more / 2;
+        } else {
+            low = middle + 1;
+            more = (more - 1) / 2;
+        }
+    }
+    Halved {
+        rate: low,
+        tries: tries + 1,
     }
 }
 
@@ -45,42 +120,46 @@ pub fn gives(junction: Junction, wanted: Flows, rate: Units) -> bool
     }
 }
 
-// The middle of the rates left, rounded down: below the greatest of them, so that a rate follows it.
-fn middle(low: u32, high: u32) -> u32
-    requires { ⌜ low < high ⌝ }
-    ensures { λ r. ⌜ (r ≡ low + (high - low) / 2) × (r < 4294967295) ⌝ }
+// The rates 0 to C, halved.
+pub fn candidate(junction: Junction, wanted: Flows) -> Halved
+    requires { ⌜ junction .split .0 ≤ 65536 ⌝ }
+    ensures { λ r. ⌜ r ≡ candidate (junctionOf junction) (flowsOf wanted) ⌝ }
 {
-    low + (high - low) / 2
+    let sent = road::inner::sending(
+        junction.link,
+        junction.state.vehicles,
+        junction.link.full_speed,
+    );
+    let beside = road::inner::through(sent, junction.split);
+    let most = smaller(junction.state.queue.0, junction.ramp.capacity.0);
+    halved(
+        sent.0,
+        beside.0,
+        junction.supply.0,
+        most,
+        wanted.main.0,
+        wanted.ramp.0,
+        junction.ramp.capacity.0,
+    )
 }
 
-// The one rate left when the rates 0 to C are halved.
-pub fn candidate(junction: Junction, wanted: Flows) -> Units
+// The search for a rate of 0 to C that gives the flows wanted at full speed.
+pub fn search(junction: Junction, wanted: Flows) -> Search
     requires { ⌜ junction .split .0 ≤ 65536 ⌝ }
-    ensures { λ r. ⌜ r .0 ≡ candidate (junctionOf junction) (flowsOf wanted) ⌝ }
+    ensures { λ r. ⌜ r ≡ search (junctionOf junction) (flowsOf wanted) ⌝ }
 {
-    let mut low: u32 = 0;
-    let mut high = junction.ramp.capacity.0;
-    while low < high {
-        let middle = middle(low, high);
-        if reaches(junction, wanted, Units(middle)) {
-            high = middle;
-        } else {
-            low = middle + 1;
+    let last = candidate(junction, wanted);
+    let tries = last.tries;
+    if gives(junction, wanted, Units(last.rate)) {
+        Search {
+            found: Found::Rate(Units(last.rate)),
+            tries,
         }
-    }
-    Units(low)
-}
-
-// The smallest rate of 0 to C that gives the flows wanted at full speed.
-pub fn find_rate(junction: Junction, wanted: Flows) -> Found
-    requires { ⌜ junction .split .0 ≤ 65536 ⌝ }
-    ensures { λ r. ⌜ r ≡ rateFor (junctionOf junction) (flowsOf wanted) ⌝ }
-{
-    let rate = candidate(junction, wanted);
-    if gives(junction, wanted, rate) {
-        Found::Rate(rate)
     } else {
-        Found::Nothing
+        Search {
+            found: Found::Nothing,
+            tries,
+        }
     }
 }
 
@@ -103,7 +182,9 @@ pub fn setting_for(junction: Junction, wanted: Flows) -> Setting
     requires { ⌜ (junction .state .vehicles .0 ≤ 65536) × (wanted .main .0 ≤ junction .state .vehicles .0) ⌝ }
     ensures { λ r. ⌜ r ≡ settingFor (junctionOf junction) (flowsOf wanted) ⌝ }
 {
-    let Found::Rate(rate) = find_rate(junction, wanted) else {
+    let search = search(junction, wanted);
+    let found = search.found;
+    let Found::Rate(rate) = found else {
         let ramp = wanted.ramp;
         return Setting::Held(ramp, held_limit(junction.state.vehicles, wanted.main));
     };

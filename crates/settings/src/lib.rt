@@ -10,6 +10,12 @@ pub enum Found {
     Nothing,
 }
 
+// What a search for a rate comes to: what it found, and how many rates it tried.
+pub struct Search {
+    pub found: Found,
+    pub tries: u32,
+}
+
 // A node's setting: full speed at a rate, or held at a rate and a limit.
 pub enum Setting {
     Full(Units),

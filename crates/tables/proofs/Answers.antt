@@ -106,6 +106,11 @@ left-refused a b new lent e h = left-kept a new lent h ∙ ap (λ (x : Answer). 
 pub left-accepted : (a b : Answer) (new lent l : List ℕ) → a ≡ b → a ≡ Accepted → l ≡ new → l ≡ left b new lent
 left-accepted a b new lent l e h w = w ∙ ap (λ (x : Answer). left x new lent) (sym h ∙ e)
 
+-- what is new matters only where the answer accepts
+pub left-same : (a : Answer) (x y lent : List ℕ) → (a ≡ Accepted → x ≡ y) → left a x lent ≡ left a y lent
+left-same Accepted x y lent h = h refl
+left-same (Refused number row node) x y lent h = refl
+
 -- ---- answers that fit the number that the C host gets
 
 pub small-refusal : (x row node : ℕ) → x ≤ 255 → row ≤ 65535 → node ≤ 255 → Small (refusal x row node)

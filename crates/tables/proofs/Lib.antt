@@ -8,3 +8,4 @@ pub mod Grid
 pub mod Sum
 pub mod Least
 pub mod Sets
+pub mod Halving

@@ -4,3 +4,4 @@ pub mod Tabulate
 pub mod Grid
 pub mod Sum
 pub mod Least
+pub mod Halving

@@ -40,3 +40,9 @@ pub fn sized(fits: bool) -> Answer
     }
     refusal(1, 0, 0)
 }
+
+// What a search by halving comes to: the one rate left, and how many rates were tried.
+pub struct Halved {
+    pub rate: u32,
+    pub tries: u32,
+}
