@@ -10,6 +10,7 @@ use Rattle.tables.specs.declared.Answer.{Answer}
 use Rattle.tables.specs.declared.Answer.the-variants.{Accepted}
 use Rattle.tables.specs.Answer.{orElse, refusal, sized}
 use Rattle.tables.proofs.Answers.{Refuses, orElse-accepts, or-else-stop, or-else-next}
+use Rattle.tables.proofs.Tests.{and-iff}
 use Rattle.tables.proofs.Sum.{Summed, summed-ended, sum-same}
 use Rattle.road.specs.Corridor.{NodeState}
 use Rattle.road.specs.Run.{cost}
@@ -22,7 +23,7 @@ use Rattle.lists.proofs.Limits.{Sizes, sizes-iff, sized-iff, sized-refuses, ran
 use Rattle.lists.proofs.Sizes.{corridor-fits, demands-fit, record-wide, record-sized-iff, width-told}
 use Rattle.simulate_rows.specs.Rows.{rowCost}
 use Rattle.convert.specs.Refusals.{costFault, judged}
-use Rattle.convert.specs.Convert.{recordRefusal, checkAnswer, convertAnswer}
+use Rattle.convert.specs.Convert.{recordRefusal, recordAnswer, checkAnswer, convertAnswer}
 use Rattle.convert_rows.specs.Rows.{bareRoad}
 use Rattle.convert.specs.Rows.{fixedRefusal, stepsRefusal, stateCostAt, Ready}
 use Rattle.convert.proofs.Rows.{TraceRow, trace-row}
@@ -167,7 +168,7 @@ module _ (corridor demands words : List ℕ) (f : Bool) (s : f ≡ recordTest co
   unfolding checkAnswer
   check-rest b g q = or-else-next a b _ _ (e ∙ ap sized s) g q
 
--- ---- the converter: first whether the lent plan has its length, then what the checker answers
+-- ---- a call with one more test among those of 1: first this one with N, K and two lengths, then what the checker answers
 
 -- of three tests, the first and the last
 ends-fail : (s w r : Bool) → (s && r) ≡ false → (s && (w && r)) ≡ false
@@ -180,36 +181,50 @@ ends-hold false w r e = refl
 ends-hold true false r e = refl
 ends-hold true true r e = e
 
-module _ (corridor demands words : List ℕ) (room : ℕ) (f : Bool) (s : f ≡ roomTest corridor demands room) (a : Answer) (e : a ≡ sized f) where
-  told-room : a ≡ Accepted → roomTest corridor demands room ≡ true
-  told-room g = sym s ∙ sized-iff f .0 (sym e ∙ g)
+-- f and a are what the first tests answered, as a test and as an answer, and b what the checker answered
+module _ (corridor demands words : List ℕ) (also f : Bool) (s : f ≡ (sizes corridor demands && also)) (a : Answer) (e : a ≡ sized f) where
+  also-told : a ≡ Accepted → (sizes corridor demands && also) ≡ true
+  also-told g = sym s ∙ sized-iff f .0 (sym e ∙ g)
 
-  pub convert-sized : Refuses a → a ≡ convertAnswer corridor demands words room
-  unfolding convertAnswer
-  convert-sized r =
+  pub also-sized : Refuses a → a ≡ recordAnswer also corridor demands words
+  also-sized r =
       let no : f ≡ false = sized-refuses f (subst Refuses e r) in
-      let q = ends-fail (sizes corridor demands) (recordSized (linksOf corridor) (stepsOf demands) (length words))
-      (eqb room (planLength (linksOf corridor) (stepsOf demands))) (sym s ∙ no) in
+      let q = ends-fail (sizes corridor demands) (recordSized (linksOf corridor) (stepsOf demands) (length words)) also (sym s ∙ no) in
       or-else-stop a _ _ (e ∙ ap sized (no ∙ sym q)) r
 
-  checks-same : a ≡ Accepted → checkAnswer corridor demands words ≡ convertAnswer corridor demands words room
-  unfolding checkAnswer convertAnswer
-  checks-same g =
-      let q = ends-hold (sizes corridor demands) (recordSized (linksOf corridor) (stepsOf demands) (length words))
-      (eqb room (planLength (linksOf corridor) (stepsOf demands))) (told-room g) in
-      ap (λ (x : Bool). orElse (sized x) (recordRefusal corridor demands words)) (sym q)
+  pub also-checks : (b : Answer) → a ≡ Accepted → b ≡ checkAnswer corridor demands words → b ≡ recordAnswer also corridor demands words
+  unfolding checkAnswer
+  also-checks b g q =
+      let h = ends-hold (sizes corridor demands) (recordSized (linksOf corridor) (stepsOf demands) (length words)) also (also-told g) in
+      q ∙ ap (λ (x : Bool). orElse (sized x) (recordRefusal corridor demands words)) (sym h)
+
+-- what an accepted answer leaves
+pub also-kept : (corridor demands words : List ℕ) (also : Bool) → recordAnswer also corridor demands words ≡ Accepted
+    → Ready (widthOf corridor demands (length words)) corridor demands words (linksOf corridor) (stepsOf demands)
+    × (judged (widthOf corridor demands (length words)) (roadOf corridor demands) words ≡ Accepted)
+    × (also ≡ true)
+also-kept corridor demands words also e =
+    let (fit, rest) = orElse-accepts (sized (sizes corridor demands && (recordSized (linksOf corridor) (stepsOf demands) (length words) && also))) _ .0 e in
+    let (s, more) = and-iff (sizes corridor demands) _ .0 (sized-iff _ .0 fit) in
+    let (l, last) = and-iff (recordSized (linksOf corridor) (stepsOf demands) (length words)) also .0 more in
+    let (r, j) = orElse-accepts (ranges (roadOf corridor demands)) _ .0 rest in
+    (ready corridor demands words (ranges (roadOf corridor demands)) s (record-sized-iff (linksOf corridor) (stepsOf demands) (length words) .0 l) refl r, j, last)
+
+-- ---- the converter: whether the lent plan has its length
+
+module _ (corridor demands words : List ℕ) (room : ℕ) (f : Bool) (s : f ≡ roomTest corridor demands room) (a : Answer) (e : a ≡ sized f) where
+  pub convert-sized : Refuses a → a ≡ convertAnswer corridor demands words room
+  unfolding convertAnswer
+  convert-sized r = also-sized corridor demands words _ f s a e r
 
   pub convert-checks : (b : Answer) → a ≡ Accepted → b ≡ checkAnswer corridor demands words → b ≡ convertAnswer corridor demands words room
-  convert-checks b g q = q ∙ checks-same g
+  unfolding convertAnswer
+  convert-checks b g q = also-checks corridor demands words _ f s a e b g q
 
-  -- what an accepted record and a plan of the right length leave for the writing of the plan
+  -- what is left for the writing of the plan
   pub plan-asks : (b : Answer) → a ≡ Accepted → b ≡ checkAnswer corridor demands words → b ≡ Accepted
       → Ready (widthOf corridor demands (length words)) corridor demands words (linksOf corridor) (stepsOf demands)
       × ((judged (widthOf corridor demands (length words)) (roadOf corridor demands) words ≡ Accepted) × (room ≡ planLength (linksOf corridor) (stepsOf demands)))
-  unfolding checkAnswer
   plan-asks b g q z =
-      let both = orElse-accepts (sized (recordTest corridor demands (length words))) _ .0 (sym q ∙ z) in
-      let l = check-asks corridor demands words (recordTest corridor demands (length words)) refl _ refl (both .0) in
-      let r = orElse-accepts (ranges (roadOf corridor demands)) (judged (widthOf corridor demands (length words)) (roadOf corridor demands) words) .0 (both .1) in
-      let last = both-hold (sizes corridor demands) _ (λ x. x, λ x. x) (eq-holds room (planLength (linksOf corridor) (stepsOf demands))) .0 (told-room g) in
-      (ready corridor demands words (ranges (roadOf corridor demands)) (l .0) (l .1) refl (r .0), (r .1, last .1))
+      let (k, j, l) = also-kept corridor demands words _ (sym (also-checks corridor demands words _ f s a e b g q) ∙ z) in
+      (k, (j, eq-holds room (planLength (linksOf corridor) (stepsOf demands)) .0 l))

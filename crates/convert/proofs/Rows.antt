@@ -113,7 +113,7 @@ module _ (width : ℕ) (corridor demands words : List ℕ) (links steps : ℕ) (
 
   -- the demands' row comes with the flow that may leave link N, as the lists have it
   module _ (demand row : List ℕ) (d : DemandRow corridor demands k demand) (t : TraceRow width (linksOf corridor) (traceOf width (roadOf corridor demands) words) (exitsOf width (roadOf corridor demands) words) k row) (downstream : ℕ) (beyond : downstream ≡ downstreamWord demands links steps k) where
-    row-junction : (i : ℕ) → i ≤ linksOf corridor → junction (stepRoad corridor demand downstream) 0 (stateIn width row) i ≡ junction road k (trace .state k) i
+    pub row-junction : (i : ℕ) → i ≤ linksOf corridor → junction (stepRoad corridor demand downstream) 0 (stateIn width row) i ≡ junction (roadOf corridor demands) k (traceOf width (roadOf corridor demands) words .state k) i
     unfolding roadOf
     row-junction i h =
         step-junction corridor demands k demand d downstream (beyond ∙ ap₂ (λ (x y : ℕ). downstreamWord demands x y k) n (ready .demandsFit .first)) (stateIn width row) i h

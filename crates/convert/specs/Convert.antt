@@ -1,6 +1,6 @@
 -- Checker, converter and normal form: their answers, and the plan that they write.
 use Prim.Native.Nat.{ℕ}
-use mathlib.Core.Bool.{_&&_}
+use mathlib.Core.Bool.{Bool, _&&_}
 use mathlib.Core.List.{List}
 use lib.ListN.{length}
 use lib.Dec.{eqb}
@@ -50,14 +50,14 @@ unfoldable pub checkAnswer : List ℕ → List ℕ → List ℕ → Answer
 checkAnswer corridor demands words =
     orElse (sized (sizes corridor demands && recordSized (linksOf corridor) (stepsOf demands) (length words))) (recordRefusal corridor demands words)
 
+-- the same with one more test among those of 1
+abbrev pub recordAnswer : Bool → List ℕ → List ℕ → List ℕ → Answer
+recordAnswer also corridor demands words =
+    orElse (sized (sizes corridor demands && (recordSized (linksOf corridor) (stepsOf demands) (length words) && also))) (recordRefusal corridor demands words)
+
 -- `room` is the length of the lent plan
 unfoldable pub convertAnswer : List ℕ → List ℕ → List ℕ → ℕ → Answer
-convertAnswer corridor demands words room =
-    orElse
-    (sized
-    (sizes corridor demands
-    && (recordSized (linksOf corridor) (stepsOf demands) (length words) && eqb room (planLength (linksOf corridor) (stepsOf demands)))))
-    (recordRefusal corridor demands words)
+convertAnswer corridor demands words room = recordAnswer (eqb room (planLength (linksOf corridor) (stepsOf demands))) corridor demands words
 
 -- 1 to 6: what refuses a normal form before anything is written; `work` and `room` are the lengths of the lent work record and of the lent plan
 unfoldable pub normalRefusal : List ℕ → List ℕ → List ℕ → ℕ → ℕ → Answer
