@@ -1,4 +1,4 @@
-/* Every call of the header at least once, on B, the corridor that docs/MODEL.md works through: case 1 simulated, checked, converted and brought to normal form, by words,
+/* Every call of the header at least once, on B, the corridor that docs/MODEL.md works through: case 1 simulated, checked, searched for its rates, converted and brought to normal form, by words,
  * by nodes and by files; then with demands of kind 5, which let 70 units out of link 2; then with a corridor of kind 10, whose link 2 discharges 80 above 190; then with
  * records of kind 7, which list the 20 units that leave by off-ramp 1. It prints nothing and ends with status 0 where all is as worked there. */
 #include "gigorchid.h"
@@ -59,6 +59,33 @@ static int by_words(void)
     if (gigorchid_normal_words(corridor, CORRIDOR, demands, DEMANDS, plan, PLAN, work, RECORD, found, PLAN) != 0
         || !same(work, record, RECORD) || !same(found, normal, PLAN))
         return wrong("normal_words");
+    return 0;
+}
+
+/* Node 1 has the rates 0 to 60: 30, 45, 53, 49, 51 and 50 are tried, and 50 again as the one left. Node 2 has rate 0 alone, which is found with
+ * f = 100 and not with f = 60. */
+static int by_search(void)
+{
+    static const uint32_t first[GIGORCHID_SEARCH_WORDS] = {7, 1, 50}, second[GIGORCHID_SEARCH_WORDS] = {1, 0, 0};
+    uint32_t out[GIGORCHID_SEARCH_WORDS] = {9, 9, 9}, other[RECORD];
+    if (gigorchid_search_words(corridor, CORRIDOR, demands, DEMANDS, record, RECORD, K, 1, out, GIGORCHID_SEARCH_WORDS) != GIGORCHID_BAD_LENGTH
+        || gigorchid_search_words(corridor, CORRIDOR, demands, DEMANDS, record, RECORD, 0, N + 1, out, GIGORCHID_SEARCH_WORDS) != GIGORCHID_BAD_LENGTH
+        || gigorchid_search_words(corridor, CORRIDOR, demands, DEMANDS, record, RECORD, 0, 1, out, GIGORCHID_SEARCH_WORDS - 1) != GIGORCHID_BAD_LENGTH
+        || out[0] != 9 || out[1] != 9 || out[2] != 9)
+        return wrong("a search at no step, at no node or into two words");
+    if (gigorchid_search_words(corridor, CORRIDOR, demands, DEMANDS, record, RECORD, 0, 1, out, GIGORCHID_SEARCH_WORDS) != 0
+        || !same(out, first, GIGORCHID_SEARCH_WORDS))
+        return wrong("search_words");
+    memcpy(other, record, sizeof record);
+    other[10] = 60;
+    if (gigorchid_search_words(corridor, CORRIDOR, demands, DEMANDS, other, RECORD, 0, 2, out, GIGORCHID_SEARCH_WORDS)
+        != 2 * 256 + GIGORCHID_BAD_NEXT_STATE)
+        return wrong("a search in a record that is refused");
+    other[20] = 240;
+    other[24] = 410;
+    if (gigorchid_search_words(corridor, CORRIDOR, demands, DEMANDS, other, RECORD, 0, 2, out, GIGORCHID_SEARCH_WORDS) != 0
+        || !same(out, second, GIGORCHID_SEARCH_WORDS))
+        return wrong("search_words that finds none");
     return 0;
 }
 
@@ -239,6 +266,6 @@ static int files_of_kind_7(void)
 
 int main(void)
 {
-    return by_words() || by_nodes() || by_files() || read_back() || with_downstream() || with_drop() || lent_of_kind_7() || proposed_of_kind_7()
+    return by_words() || by_search() || by_nodes() || by_files() || read_back() || with_downstream() || with_drop() || lent_of_kind_7() || proposed_of_kind_7()
         || files_of_kind_7();
 }

@@ -14,6 +14,7 @@ static_assert(GIGORCHID_PLAN_WORDS(GIGORCHID_MOST_LINKS, GIGORCHID_MOST_STEPS) =
 static_assert(GIGORCHID_RECORD_WORDS(GIGORCHID_MOST_LINKS, GIGORCHID_MOST_STEPS) == 374662, "record");
 static_assert(GIGORCHID_RECORD_7_WORDS(GIGORCHID_MOST_LINKS, GIGORCHID_MOST_STEPS) == 468327, "record of kind 7");
 static_assert(GIGORCHID_RECORD_7_WORDS(1, 3) == GIGORCHID_RECORD_WORDS(1, 4), "a record's kind is told by N, K and its words");
+static_assert(GIGORCHID_SEARCH_WORDS == 3, "what a search leaves");
 static_assert(GIGORCHID_FILE_BYTES(586) == 2560, "file of a corridor");
 static_assert(GIGORCHID_FILE_BYTES(716) == 3072, "file of a corridor of kind 10");
 static_assert(GIGORCHID_FILE_BYTES(187201) == 766976, "file of demands");

@@ -1,4 +1,4 @@
-/* Gigorchid: simulator, checker, converter and normal form of freeway metering plans, for C (C99 on) and C++ (C++11 on).
+/* Gigorchid: simulator, checker, converter, rate search and normal form of freeway metering plans, for C (C99 on) and C++ (C++11 on).
  *
  * Link with libhost.a, which `rt staticlib host` makes of the Gigorchid sources (cc host.c libhost.a); of the C library it needs memcpy and
  * memset. It is built for x86-64 Linux. This header says all that a caller must know; docs/MODEL.md of the sources says it at length.
@@ -97,14 +97,13 @@
 #include <stddef.h>
 #include <stdint.h>
 
-/* The version of this header and of the library that comes with it; the library itself does not tell. New in 0.4.0 are records of kind 7. Code
- * for 0.3.0 need not change, nor be compiled anew: GIGORCHID_RECORD_WORDS is still the count of kind 3, which still means kind 3, and what
- * 0.3.0 accepts is accepted, with the same outputs. A record's file may now be of kind 7, though: the calls on files take it, and
- * gigorchid_read_record refuses it by 1 unless it is lent the count that gigorchid_record_words tells. */
+/* The version of this header and of the library that comes with it; the library itself does not tell. New in 0.5.0 is gigorchid_search_words,
+ * and the text of refusal 1 speaks of its step and node. Code for 0.4.0 need not change, nor be compiled anew: every other call answers and
+ * writes what it did, and the converter takes less time. */
 #define GIGORCHID_VERSION_MAJOR 0
-#define GIGORCHID_VERSION_MINOR 4
+#define GIGORCHID_VERSION_MINOR 5
 #define GIGORCHID_VERSION_PATCH 0
-#define GIGORCHID_VERSION_TEXT "0.4.0"
+#define GIGORCHID_VERSION_TEXT "0.5.0"
 /* The three as one number, to compare: 10,000 x major + 100 x minor + patch. */
 #define GIGORCHID_VERSION (GIGORCHID_VERSION_MAJOR * 10000 + GIGORCHID_VERSION_MINOR * 100 + GIGORCHID_VERSION_PATCH)
 
@@ -146,6 +145,7 @@ extern "C" {
 #define GIGORCHID_PLAN_WORDS(n, k) (GIGORCHID_CAST(size_t, k) * (GIGORCHID_CAST(size_t, n) + 1) * 2)
 #define GIGORCHID_RECORD_WORDS(n, k) ((GIGORCHID_CAST(size_t, k) + 1) * (GIGORCHID_CAST(size_t, n) + 1) * 4 + 2)
 #define GIGORCHID_RECORD_7_WORDS(n, k) ((GIGORCHID_CAST(size_t, k) + 1) * (GIGORCHID_CAST(size_t, n) + 1) * 5 + 2)
+#define GIGORCHID_SEARCH_WORDS 3
 #define GIGORCHID_BLOCK_BYTES 512
 #define GIGORCHID_FILE_BYTES(words) ((GIGORCHID_CAST(size_t, words) + 124) / 125 * GIGORCHID_BLOCK_BYTES)
 
@@ -183,7 +183,7 @@ static inline size_t gigorchid_record_words(uint32_t n, uint32_t k, const uint8_
  * row, then node; then 8 to 12 by step, node and number; 13 last. The readers, below, say the order of 14 to 18. */
 #define GIGORCHID_REFUSALS(ENTRY)                                                                                                                                                     \
     ENTRY(GIGORCHID_ACCEPTED, 0, "accepted")                                                                                                                                          \
-    ENTRY(GIGORCHID_BAD_LENGTH, 1, "N or K is out of range or not the list's own, or a count is not the one that N, K and the kind ask for")                                          \
+    ENTRY(GIGORCHID_BAD_LENGTH, 1, "N or K is out of range or not the list's own, a step is not below K or a node above N, or a count is not the one that N, K and the kind ask for") \
     ENTRY(GIGORCHID_BAD_LINK, 2, "the node's F, V, W, J, dropped capacity or drop density is out of range, or not zero at node 0")                                                    \
     ENTRY(GIGORCHID_BAD_RAMP, 3, "the node's identifier is zero or that of an earlier node, or its C or L is out of range, or not zero at node N")                                    \
     ENTRY(GIGORCHID_BAD_START, 4, "the node starts with n above J or with l above L")                                                                                                 \
@@ -243,6 +243,19 @@ uint32_t gigorchid_convert_words(const uint32_t *corridor, size_t corridor_words
                                  const uint32_t *demands, size_t demands_words,
                                  const uint32_t *record, size_t record_words,
                                  uint32_t *plan, size_t plan_words);
+
+/* Checks a proposed record as gigorchid_check_words does, and searches for the rate of one node in one step of it, as the converter does for
+ * each: for the smallest rate of 0..C that gives f and r with limit V. The search halves: of the rates left, at first 0..C, it tries the middle,
+ * rounded down, and keeps those up to it where its f is not above the wanted one and its r not below, else those above; at last it tries the
+ * one left, which counts, also where it was tried before. `out` has GIGORCHID_SEARCH_WORDS words: the tries, 1 if a rate was found else 0, and
+ * the rate or 0. The tries are at most 1 + log2(C + 1), rounded up, so at most 18, and 1 where C is 0. Where a rate is found the converter's plan
+ * has it, with limit V, and where none is a lower limit. A step not below K, a node above N and another count of `out` are refused by 1, with
+ * the other faults of 1; otherwise it is refused as gigorchid_check_words refuses. */
+uint32_t gigorchid_search_words(const uint32_t *corridor, size_t corridor_words,
+                                const uint32_t *demands, size_t demands_words,
+                                const uint32_t *record, size_t record_words,
+                                uint32_t step, uint32_t node,
+                                uint32_t *out, size_t out_words);
 
 /* Simulates the plan into `work`, which has the words of a record of either kind, and fills `normal` with the converter's plan for that record,
  * the plan's normal form; refused by 1 to 6, and by 12, which leaves the plan's record in `work`. The kind of `work` changes neither the answer

@@ -75,4 +75,4 @@ head -c 511 $b/case16.blocks > "$work/ended.blocks"
 refused 'refused by 14 at row 0, node 0: .* (record)$' 2 1 $b/corridor.blocks $b/demands.blocks "$work/ended.blocks"
 refused 'refused by 1 at row 0, node 0: .* (corridor)$' 3 1 $b/corridor.blocks $b/demands.blocks $b/case1.blocks
 refused 'refused by 1 at row 0, node 0: .* (N or K)$' 0 1 $b/corridor.blocks $b/demands.blocks $b/case1.blocks
-echo "the C examples agree with document 01 and requests 01, 04 and 07"
+echo "the C examples agree with document 01 and requests 01, 02, 04 and 07"

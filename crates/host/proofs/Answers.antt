@@ -5,7 +5,7 @@ use mathlib.Core.List.{List}
 use mathlib.Core.Path.{_≡_, refl, sym, ap, subst, _∙_}
 use native.Mathlib.Omega.{arith}
 use borrow.Author.Needs.{needs}
-use lib.Dec.{leb, eqb}
+use lib.Dec.{leb, ltb, eqb}
 use lib.ListN.{length}
 use Rattle.tables.specs.declared.Answer.{Answer}
 use Rattle.tables.specs.Answer.{orElse, hostNumber, sized, Small}
@@ -22,7 +22,8 @@ use Rattle.faults.specs.Lists.{implies, noLink, linkInRange, linkFault, rampFau
 use Rattle.lists.specs.Refusals.{recordSized, fresh, linkRefusal, rampRefusal, startRefusal, demandRefusal, ranges, bounds, planBounds, sizes}
 use Rattle.lists.proofs.Limits.{sizes-iff}
 use Rattle.simulate.specs.Simulate.{simulateSizes, simulateAnswer, simulated}
-use Rattle.convert.specs.Convert.{checkAnswer, convertAnswer, normalRefusal, normalAnswer}
+use Rattle.convert.specs.Convert.{recordAnswer, checkAnswer, convertAnswer, normalRefusal, normalAnswer}
+use Rattle.search.specs.Search.{placeAnswer}
 use Rattle.payload.specs.File.{blocksFor}
 use Rattle.payload.proofs.Bounds.{Bounded}
 use Rattle.block.specs.declared.Kind.{Kind}
@@ -174,13 +175,18 @@ module _ (corridor demands : List ℕ) where
       sized-small (sizes corridor demands && recordSized (linksOf corridor) (stepsOf demands) (length words)) _
       (λ e. let s = and-iff (sizes corridor demands) _ .0 e .0 in small-orElse (ranges (roadOf corridor demands)) _ (ranges-fit s) (judged-fit (widthOf corridor demands (length words)) words s))
 
+  record-small : (words : List ℕ) (also : Bool) → Small (recordAnswer also corridor demands words)
+  record-small words also =
+      sized-small (sizes corridor demands && (recordSized (linksOf corridor) (stepsOf demands) (length words) && also)) _
+      (λ e. let s = and-iff (sizes corridor demands) _ .0 e .0 in small-orElse (ranges (roadOf corridor demands)) _ (ranges-fit s) (judged-fit (widthOf corridor demands (length words)) words s))
+
   pub convert-small : (words : List ℕ) (room : ℕ) → Small (convertAnswer corridor demands words room)
   unfolding convertAnswer
-  convert-small words room =
-      sized-small
-      (sizes corridor demands
-      && (recordSized (linksOf corridor) (stepsOf demands) (length words) && eqb room (planLength (linksOf corridor) (stepsOf demands)))) _
-      (λ e. let s = and-iff (sizes corridor demands) _ .0 e .0 in small-orElse (ranges (roadOf corridor demands)) _ (ranges-fit s) (judged-fit (widthOf corridor demands (length words)) words s))
+  convert-small words room = record-small words (eqb room (planLength (linksOf corridor) (stepsOf demands)))
+
+  pub place-small : (words : List ℕ) (step node : ℕ) (fits : Bool) → Small (placeAnswer corridor demands words step node fits)
+  unfolding placeAnswer
+  place-small words step node fits = record-small words (ltb step (stepsOf demands) && (leb node (linksOf corridor) && fits))
 
   pub normal-small : (plan : List ℕ) (work room : ℕ) → Small (normalAnswer corridor demands plan work room)
   unfolding normalAnswer normalRefusal
@@ -243,4 +249,4 @@ pub told-number : (v : ℕ) (a x : Answer) → v ≡ hostNumber a → a ≡ x �
 told-number v a x e h = e ∙ ap hostNumber h
 
 pub ruleset numbers =
-    (needs, told-small, told-number, simulate-small, check-small, convert-small, normal-small, read-small, write-small, check-files-small, convert-files-small)
+    (needs, told-small, told-number, simulate-small, check-small, convert-small, normal-small, place-small, read-small, write-small, check-files-small, convert-files-small)

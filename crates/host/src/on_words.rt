@@ -4,6 +4,7 @@ ghost use lib.ListN.{length};
 ghost use Rattle.tables.specs.Answer.{hostNumber};
 ghost use Rattle.simulate.specs.Simulate.{simulateAnswer, recordLeft};
 ghost use Rattle.convert.specs.Convert.{checkAnswer, convertAnswer, normalAnswer, planLeft, workLeft, normalLeft};
+ghost use Rattle.search.specs.Search.{searchAnswer, searchLeft};
 use crate::inner;
 
 #[no_mangle]
@@ -55,5 +56,21 @@ pub extern "C" fn gigorchid_normal_words(
     ensures written { λ _. ⌜ now (normal .exit) ≡ normalLeft (now (corridor .entry)) (now (demands .entry)) (now (plan .entry)) (length (now (work .entry))) (now (normal .entry)) ⌝ }
 {
     let answer = convert::normal_form(corridor, demands, plan, work, normal);
+    inner::number(answer)
+}
+
+#[no_mangle]
+pub extern "C" fn gigorchid_search_words(
+    corridor: &[u32],
+    demands: &[u32],
+    record: &[u32],
+    step: u32,
+    node: u32,
+    out: &mut [u32],
+) -> u32
+    ensures answered { λ r. ⌜ r ≡ hostNumber (searchAnswer (now (corridor .entry)) (now (demands .entry)) (now («record» .entry)) step node (length (now (out .entry)))) ⌝ }
+    ensures written { λ _. ⌜ now (out .exit) ≡ searchLeft (now (corridor .entry)) (now (demands .entry)) (now («record» .entry)) step node (now (out .entry)) ⌝ }
+{
+    let answer = search::search(corridor, demands, record, step, node, out);
     inner::number(answer)
 }
