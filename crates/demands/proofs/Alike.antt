@@ -1,20 +1,24 @@
 -- Lists that tell roads which agree at every node and step, and are of right lengths alike, have the same answers and outputs in every call.
-use Prim.Native.Nat.{ℕ}
-use mathlib.Core.Bool.{_&&_}
+use Prim.Native.Nat.{ℕ, _≤_, _<_}
+use mathlib.Core.Bool.{Bool, _&&_}
 use mathlib.Core.List.{List}
-use mathlib.Core.Path.{_≡_, ap, ap₂, _∙_}
-use lib.Dec.{eqb}
+use mathlib.Core.Path.{_≡_, refl, ap, ap₂, _∙_}
+use lib.Dec.{ltb, leb, eqb}
 use lib.ListN.{length}
 use Rattle.tables.specs.declared.Answer.{Answer}
 use Rattle.tables.specs.Answer.{orElse, sized, left}
+use Rattle.tables.proofs.Answers.{left-same}
 use Rattle.road.proofs.Roads.{SameRoads}
-use Rattle.lists.specs.Words.{linksOf, stepsOf, roadOf, planLength, recordWidth, widthOf}
+use Rattle.lists.specs.Words.{linksOf, stepsOf, roadOf, traceOf, planLength, recordWidth, widthOf}
 use Rattle.lists.specs.Refusals.{recordSized, sizes, ranges, planBounds}
 use Rattle.lists.proofs.Roads.{roads-ranges, roads-bounds, roads-record}
 use Rattle.simulate.specs.Simulate.{simulateSizes, simulateAnswer, simulated, recordLeft}
 use Rattle.convert.specs.Refusals.{judged}
 use Rattle.convert.specs.Convert.{convertedBy, converted, normalForm, checkAnswer, convertAnswer, planLeft, normalRefusal, normalAnswer, workLeft, normalLeft}
 use Rattle.convert.proofs.Roads.{roads-judged, roads-plan}
+use Rattle.search.specs.Search.{searchAt, searchWords, searched, placeAnswer, searchLeft}
+use Rattle.search.proofs.Places.{place-asks}
+use Rattle.search.proofs.Roads.{roads-search}
 use Rattle.demands.specs.Completed.{SameOnLists}
 
 module _ (corridor demands corridor′ demands′ : List ℕ) (roads : SameRoads (roadOf corridor demands) (roadOf corridor′ demands′))
@@ -74,6 +78,26 @@ module _ (corridor demands corridor′ demands′ : List ℕ) (roads : SameRoads
   convert-same words room =
       λ z. orElse (sized (fit z && (record-long (length words) z && eqb room (plan-long z)))) (orElse (ranged z) (judges words z))
 
+  place-same : (words : List ℕ) (step node : ℕ) (fits : Bool) → placeAnswer corridor demands words step node fits ≡ placeAnswer corridor′ demands′ words step node fits
+  unfolding placeAnswer
+  place-same words step node fits =
+      λ z. orElse (sized (fit z && (record-long (length words) z && (ltb step (steps z) && (leb node (links z) && fits))))) (orElse (ranged z) (judges words z))
+
+  -- at a step and node that are accepted
+  searches : (words : List ℕ) (step node : ℕ) → step < stepsOf demands → node ≤ linksOf corridor → searched corridor demands words step node ≡ searched corridor′ demands′ words step node
+  unfolding searched roadOf
+  searches words step node early here =
+      ap searchWords
+      (roads-search _ _ roads _ words step node early here
+      ∙ ap (λ (w : ℕ). searchAt (roadOf corridor′ demands′) (traceOf w (roadOf corridor′ demands′) words) step node) (record-wide (length words)))
+
+  search-same : (words : List ℕ) (step node : ℕ) (lent : List ℕ) → searchLeft corridor demands words step node lent ≡ searchLeft corridor′ demands′ words step node lent
+  unfolding searchLeft
+  search-same words step node lent =
+      left-same (placeAnswer corridor demands words step node (eqb (length lent) 3)) _ _ lent
+      (λ a. let (asked, room) = place-asks corridor demands words step node _ _ refl a in searches words step node (asked .early) (asked .here))
+      ∙ ap (λ (a : Answer). left a (searched corridor′ demands′ words step node) lent) (place-same words step node (eqb (length lent) 3))
+
   refuses-same : (plan : List ℕ) (work room : ℕ) → normalRefusal corridor demands plan work room ≡ normalRefusal corridor′ demands′ plan work room
   unfolding normalRefusal
   refuses-same plan work room =
@@ -99,6 +123,8 @@ module _ (corridor demands corridor′ demands′ : List ℕ) (roads : SameRoads
         check-answers = alike-checks;
         convert-answers = convert-same;
         convert-writes = λ words lent z. left (convert-same words (length lent) z) (alike-plans words z) lent;
+        search-answers = λ words step node room. place-same words step node (eqb room 3);
+        search-writes = search-same;
         normal-answers = normal-same;
         normal-works = λ plan lent room z. left (refuses-same plan (length lent) room z) (simulates-by (length lent) plan z) lent;
         normal-writes =

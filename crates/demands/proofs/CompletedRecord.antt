@@ -7,10 +7,12 @@ use mathlib.Core.Path.{_≡_, refl, sym, ap, ap₂, _∙_}
 use native.Mathlib.Nat.{add-zero}
 use native.Mathlib.Omega.{arith}
 use borrow.Author.Tests.{lt-ltb, le-ltb, eq-eqb}
-use lib.Dec.{eqb}
+use lib.Dec.{ltb, leb, eqb}
 use lib.ListN.{length, getD, length-append}
+use Rattle.tables.specs.declared.Answer.{Answer}
 use Rattle.tables.specs.Answer.{orElse, refusal, sized, left}
 use Rattle.tables.specs.Grid.{grid, place}
+use Rattle.tables.proofs.Answers.{left-same}
 use Rattle.tables.proofs.First.{firstPlace-same}
 use Rattle.tables.proofs.Grid.{grid-length, before-rest, at-rest, each-with-rest}
 use Rattle.tables.proofs.Numbers.{le-or-lt}
@@ -31,7 +33,10 @@ use Rattle.lists.proofs.Limits.{sizes-iff, ranges-iff}
 use Rattle.lists.proofs.Sizes.{width-is, record-sized-iff}
 use Rattle.lists.proofs.Words.{plan-same}
 use Rattle.convert.specs.Refusals.{costFault, fixedAt, stepAt, judged}
-use Rattle.convert.specs.Convert.{settingAt, planFor, convertedBy, converted, recordRefusal, checkAnswer, convertAnswer, planLeft}
+use Rattle.convert.specs.Convert.{settingAt, planFor, convertedBy, converted, recordRefusal, recordAnswer, checkAnswer, convertAnswer, planLeft}
+use Rattle.search.specs.Search.{searchAt, searchWords, searched, placeAnswer, searchLeft}
+use Rattle.search.proofs.Places.{place-asks}
+use Rattle.search.proofs.Roads.{traces-search}
 use Rattle.payload.specs.Word.{Words}
 use Rattle.files.proofs.Turns.{second-same, sized-same}
 use Rattle.demands.specs.Completed.{completedExit, completedRecordWord, completedRecord, SameRecords}
@@ -236,12 +241,19 @@ module _ (corridor demands words : List ℕ) (fits : length words ≡ recordLeng
       sized-same (sizes corridor demands && recordSized (linksOf corridor) (stepsOf demands) (length words)) _ _ (λ t. refuses-alike (and-iff (sizes corridor demands) _ .0 t .0))
       ∙ ap (λ (t : Bool). orElse (sized (sizes corridor demands && t)) (recordRefusal corridor demands (completedRecord road words))) sized-alike
 
+  -- with one more test among those of 1
+  completed-with : (also : Bool) → recordAnswer also corridor demands words ≡ recordAnswer also corridor demands (completedRecord (roadOf corridor demands) words)
+  completed-with also =
+      sized-same (sizes corridor demands && (recordSized (linksOf corridor) (stepsOf demands) (length words) && also)) _ _ (λ t. refuses-alike (and-iff (sizes corridor demands) _ .0 t .0))
+      ∙ ap (λ (t : Bool). orElse (sized (sizes corridor demands && (t && also))) (recordRefusal corridor demands (completedRecord road words))) sized-alike
+
   completed-converts : (room : ℕ) → convertAnswer corridor demands words room ≡ convertAnswer corridor demands (completedRecord (roadOf corridor demands) words) room
   unfolding convertAnswer
-  completed-converts room =
-      sized-same (sizes corridor demands && (recordSized (linksOf corridor) (stepsOf demands) (length words) && eqb room (planLength (linksOf corridor) (stepsOf demands)))) _ _
-      (λ t. refuses-alike (and-iff (sizes corridor demands) _ .0 t .0))
-      ∙ ap (λ (t : Bool). orElse (sized (sizes corridor demands && (t && eqb room (planLength (linksOf corridor) (stepsOf demands))))) (recordRefusal corridor demands (completedRecord road words))) sized-alike
+  completed-converts room = completed-with (eqb room (planLength (linksOf corridor) (stepsOf demands)))
+
+  completed-places : (step node : ℕ) (fits : Bool) → placeAnswer corridor demands words step node fits ≡ placeAnswer corridor demands (completedRecord (roadOf corridor demands) words) step node fits
+  unfolding placeAnswer
+  completed-places step node fits = completed-with (ltb step (stepsOf demands) && (leb node (linksOf corridor) && fits))
 
   pub completed-plans : converted corridor demands words ≡ converted corridor demands (completedRecord (roadOf corridor demands) words)
   unfolding convertedBy
@@ -250,6 +262,21 @@ module _ (corridor demands words : List ℕ) (fits : length words ≡ recordLeng
       ∙ sym (traces-plan road (traceOf 5 road (completedRecord road words)) (traceOf 4 road words) (full-trace road words))
       ∙ ap (λ (w : ℕ). convertedBy w corridor demands (completedRecord road words)) (sym long-width)
 
+  completed-searched : (step node : ℕ) → step < stepsOf demands → node ≤ linksOf corridor
+      → searched corridor demands words step node ≡ searched corridor demands (completedRecord (roadOf corridor demands) words) step node
+  unfolding searched roadOf
+  completed-searched step node early here =
+      ap (λ (w : ℕ). searchWords (searchAt road (traceOf w road words) step node)) short-width
+      ∙ ap searchWords (sym (traces-search road (traceOf 5 road (completedRecord road words)) (traceOf 4 road words) (full-trace road words) step node early here))
+      ∙ ap (λ (w : ℕ). searchWords (searchAt road (traceOf w road (completedRecord road words)) step node)) (sym long-width)
+
+  completed-searches : (step node : ℕ) (lent : List ℕ) → searchLeft corridor demands words step node lent ≡ searchLeft corridor demands (completedRecord (roadOf corridor demands) words) step node lent
+  unfolding searchLeft
+  completed-searches step node lent =
+      left-same (placeAnswer corridor demands words step node (eqb (length lent) 3)) _ _ lent
+      (λ a. let (asked, room) = place-asks corridor demands words step node _ _ refl a in completed-searched step node (asked .early) (asked .here))
+      ∙ ap (λ (a : Answer). left a (searched corridor demands (completedRecord road words) step node) lent) (completed-places step node (eqb (length lent) 3))
+
   pub record-completes : SameRecords corridor demands words (completedRecord (roadOf corridor demands) words)
   unfolding planLeft
   record-completes =
@@ -257,4 +284,6 @@ module _ (corridor demands words : List ℕ) (fits : length words ≡ recordLeng
         check-answers = completed-checks;
         convert-answers = completed-converts;
         convert-writes = λ lent z. left (completed-converts (length lent) z) (completed-plans z) lent;
+        search-answers = λ step node room. completed-places step node (eqb room 3);
+        search-writes = completed-searches;
       }

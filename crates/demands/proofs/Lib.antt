@@ -14,3 +14,4 @@ pub mod CompletedRecord
 pub mod CompletedRecordFiles
 pub mod Completes
 pub mod Exits
+pub mod Search

@@ -18,6 +18,7 @@ use Rattle.payload.specs.File.{fileOf}
 use Rattle.file_rows.specs.Words.{corridorIn, demandsIn}
 use Rattle.files.specs.Files.{checkFiles, convertFiles, planWritten}
 use Rattle.convert.specs.Convert.{checkAnswer, convertAnswer, planLeft, normalAnswer, workLeft, normalLeft}
+use Rattle.search.specs.Search.{searchAnswer, searchLeft}
 
 -- demands of K steps with the flow that may leave link N, 65,536 in each
 unfoldable pub completed : ℕ → List ℕ → List ℕ
@@ -52,6 +53,8 @@ pub record SameOnLists (corridor demands corridor′ demands′ : List ℕ) : Ty
   pub check-answers : (words : List ℕ) → checkAnswer corridor demands words ≡ checkAnswer corridor′ demands′ words
   pub convert-answers : (words : List ℕ) (room : ℕ) → convertAnswer corridor demands words room ≡ convertAnswer corridor′ demands′ words room
   pub convert-writes : (words lent : List ℕ) → planLeft corridor demands words lent ≡ planLeft corridor′ demands′ words lent
+  pub search-answers : (words : List ℕ) (step node room : ℕ) → searchAnswer corridor demands words step node room ≡ searchAnswer corridor′ demands′ words step node room
+  pub search-writes : (words : List ℕ) (step node : ℕ) (lent : List ℕ) → searchLeft corridor demands words step node lent ≡ searchLeft corridor′ demands′ words step node lent
   pub normal-answers : (plan : List ℕ) (work room : ℕ) → normalAnswer corridor demands plan work room ≡ normalAnswer corridor′ demands′ plan work room
   pub normal-works : (plan lent : List ℕ) (room : ℕ) → workLeft corridor demands plan lent room ≡ workLeft corridor′ demands′ plan lent room
   pub normal-writes : (plan : List ℕ) (work : ℕ) (lent : List ℕ) → normalLeft corridor demands plan work lent ≡ normalLeft corridor′ demands′ plan work lent
@@ -61,6 +64,8 @@ pub record SameRecords (corridor demands words words′ : List ℕ) : Type 0 whe
   pub check-answers : checkAnswer corridor demands words ≡ checkAnswer corridor demands words′
   pub convert-answers : (room : ℕ) → convertAnswer corridor demands words room ≡ convertAnswer corridor demands words′ room
   pub convert-writes : (lent : List ℕ) → planLeft corridor demands words lent ≡ planLeft corridor demands words′ lent
+  pub search-answers : (step node room : ℕ) → searchAnswer corridor demands words step node room ≡ searchAnswer corridor demands words′ step node room
+  pub search-writes : (step node : ℕ) (lent : List ℕ) → searchLeft corridor demands words step node lent ≡ searchLeft corridor demands words′ step node lent
 
 -- the calls on files
 pub record SameOnFiles (n k : ℕ) (corridor demands recorded corridor′ demands′ recorded′ : List ℕ) : Type 0 where

@@ -6,3 +6,4 @@ pub mod Downstream
 pub mod Completed
 pub mod Drop
 pub mod Exits
+pub mod Search
