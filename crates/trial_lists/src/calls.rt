@@ -1,5 +1,6 @@
 // The public calls on word lists: each prints its name, its answer and whether the lists lent to it were kept.
 // A list that a call fills stands in a function of its own, with room for K = 1,441 at N = 1, a record's for kind 7.
+use tables::is_refused;
 use trial::content;
 use trial::content::LENT_WORD;
 use trial::line;
@@ -52,6 +53,29 @@ pub fn converted(told: &[u8], corridor: &[u32], demands: &[u32], words: &[u32], 
     say::answer(answer);
     content::say_kept(lent);
     say_filled(told, b'c', b", plan", lent, 2);
+}
+
+// The step, the node and the length of the lent list are 0, 0 and 3, or what the case tells.
+pub fn searched(told: &[u8], corridor: &[u32], demands: &[u32], words: &[u32]) {
+    let mut at = [0u32, 0, 3];
+    line::change(&mut at, b'a', told);
+    let mut room = [LENT_WORD; 6];
+    let lent = content::lent_part(&mut room, content::length(&at, 2));
+    let answer = search::search(
+        corridor,
+        demands,
+        words,
+        content::word(&at, 0),
+        content::word(&at, 1),
+        lent,
+    );
+    say::text(b" search ");
+    say::answer(answer);
+    content::say_kept(lent);
+    if is_refused(answer) {
+        return;
+    }
+    say_filled(told, b'f', b", tries, found and rate", lent, 3);
 }
 
 pub fn normal(told: &[u8], corridor: &[u32], demands: &[u32], plan: &[u32], lengths: &[u32]) {

@@ -53,7 +53,7 @@ fn proposed(
     call(told, lengths, corridor, demands, plan, words);
 }
 
-// Simulate, convert (a check too) and normal make one call, lent is a normal form with its work record, and all makes every call.
+// Simulate, convert (a check too), find (a search) and normal make one call, lent is a normal form with its work record, and all makes every call.
 fn call(
     told: &[u8],
     lengths: &[u32],
@@ -70,6 +70,7 @@ fn call(
             calls::checked(corridor, demands, words);
             calls::converted(told, corridor, demands, words, plan_length);
         }
+        b'f' => calls::searched(told, corridor, demands, words),
         b'n' | b'l' => calls::normal(told, corridor, demands, plan, lengths),
         _ => {
             calls::simulated(told, corridor, demands, plan, record_length);
@@ -78,6 +79,8 @@ fn call(
             calls::converted(told, corridor, demands, words, plan_length);
             say::comma();
             calls::normal(told, corridor, demands, plan, lengths);
+            say::comma();
+            calls::searched(told, corridor, demands, words);
         }
     }
 }
