@@ -20,9 +20,11 @@ pub trait WordCalls: Sync {
         work: &mut [u32],
         normal: &mut [u32],
     ) -> u32;
+    /// `lists` are corridor, demands and record, `place` is a step and a node.
+    fn search(&self, lists: [&[u32]; 3], place: (u32, u32), out: &mut [u32]) -> u32;
 }
 
-/// The same calls with the corridor as a list of nodes.
+/// The first four with the corridor as a list of nodes.
 pub trait NodeCalls: Sync {
     fn simulate_nodes(
         &self,
@@ -84,6 +86,11 @@ impl<R: Rules> WordCalls for R {
         normal: &mut [u32],
     ) -> u32 {
         answer(model::normal::<R>(corridor, demands, plan, work, normal))
+    }
+
+    fn search(&self, lists: [&[u32]; 3], place: (u32, u32), out: &mut [u32]) -> u32 {
+        let ([corridor, demands, record], (step, node)) = (lists, place);
+        answer(model::search::<R>(corridor, demands, record, step, node, out))
     }
 }
 
@@ -153,7 +160,8 @@ impl<R: Rules> Program for R {
     }
 }
 
-/// Makes calls on nodes from word lists. The list's own N falls away; its nodes count.
+/// Makes calls on nodes from word lists. The list's own N falls away; its nodes count. The search has
+/// no call on nodes and stays as it is.
 pub struct ByNodes<C>(pub C);
 
 /// The whole nodes of a corridor's words, sound or not, of the kind whose length is nearer to that
@@ -167,7 +175,7 @@ fn nodes_of(corridor: &[u32]) -> Vec<Node> {
     words.chunks_exact(kind.node_words()).map(Node::from_words).collect()
 }
 
-impl<C: NodeCalls> WordCalls for ByNodes<C> {
+impl<C: NodeCalls + WordCalls> WordCalls for ByNodes<C> {
     fn simulate(&self, corridor: &[u32], demands: &[u32], plan: &[u32], record: &mut [u32]) -> u32 {
         self.0.simulate_nodes(&nodes_of(corridor), demands, plan, record)
     }
@@ -190,11 +198,15 @@ impl<C: NodeCalls> WordCalls for ByNodes<C> {
     ) -> u32 {
         self.0.normal_nodes(&nodes_of(corridor), demands, plan, work, normal)
     }
+
+    fn search(&self, lists: [&[u32]; 3], place: (u32, u32), out: &mut [u32]) -> u32 {
+        self.0.search(lists, place, out)
+    }
 }
 
 /// Makes the checker's and the converter's calls on files: the side's writers write them, its
-/// reader reads the plan back. Simulator and normal form have no call on files and stay as they
-/// are.
+/// reader reads the plan back. Simulator, normal form and search have no call on files and stay as
+/// they are.
 pub struct ByFiles<C>(pub C);
 
 impl<C: FileCalls> ByFiles<C> {
@@ -249,6 +261,10 @@ impl<C: FileCalls + WordCalls> WordCalls for ByFiles<C> {
     ) -> u32 {
         self.0.normal(corridor, demands, plan, work, normal)
     }
+
+    fn search(&self, lists: [&[u32]; 3], place: (u32, u32), out: &mut [u32]) -> u32 {
+        self.0.search(lists, place, out)
+    }
 }
 
 /// Makes each call with the corridor and the demands that a function makes of those given.
@@ -283,6 +299,11 @@ impl<F: Fn(&[u32], &[u32]) -> [Vec<u32>; 2] + Sync> WordCalls for Instead<'_, F>
     ) -> u32 {
         let [corridor, demands] = (self.lists)(corridor, demands);
         self.calls.normal(&corridor, &demands, plan, work, normal)
+    }
+
+    fn search(&self, lists: [&[u32]; 3], place: (u32, u32), out: &mut [u32]) -> u32 {
+        let [corridor, demands] = (self.lists)(lists[0], lists[1]);
+        self.calls.search([&corridor, &demands, lists[2]], place, out)
     }
 }
 
@@ -324,6 +345,10 @@ impl<C: WordCalls> WordCalls for OnSmallStack<C> {
         normal: &mut [u32],
     ) -> u32 {
         on_small_stack(|| self.0.normal(corridor, demands, plan, work, normal))
+    }
+
+    fn search(&self, lists: [&[u32]; 3], place: (u32, u32), out: &mut [u32]) -> u32 {
+        on_small_stack(|| self.0.search(lists, place, out))
     }
 }
 

@@ -6,6 +6,7 @@ use crate::limits::LimitCase;
 use crate::model::program::{three_files, MOST_BYTES};
 use crate::model::{Input, Kinds, Quick, Record, Size};
 use crate::random::files::{FileCase, ThreeFiles};
+use crate::random::search::SearchCase;
 use crate::random::sound::WordCase;
 use crate::random::Random;
 use crate::tally::Tally;
@@ -87,7 +88,7 @@ fn same_call<C: ?Sized, T: Pattern>(
 /// Names of the calls on word lists, or on nodes, for messages and counts.
 pub const CALLS_ON_LISTS: [&str; 4] = ["simulate", "check", "convert", "normal"];
 
-/// All four calls on word lists.
+/// The four calls that there are on word lists and on nodes.
 pub fn compare_words(
     sides: [&dyn WordCalls; 2],
     case: &WordCase,
@@ -152,6 +153,39 @@ fn tally_settings(case: &WordCase, answer: u32, record: &[u32], plan: &[u32], ta
     if let (0, Some((input, record))) = (answer, input_and_record(case, record)) {
         tally.settings(&input, &record, plan);
     }
+}
+
+/// The search at one step and node.
+pub fn compare_search(
+    sides: [&dyn WordCalls; 2],
+    case: &SearchCase,
+    tally: &mut Tally,
+) -> Result<(), String> {
+    let SearchCase { lists, place, lent_out } = case;
+    let (answer, [mut out, _]) = same_call("search", sides, [*lent_out, 0], |side, out, _| {
+        side.search(lists.proposal(), *place, out)
+    })?;
+    tally.search(case, answer, out.list());
+    Ok(())
+}
+
+/// The search at every step and node of a case.
+pub fn compare_every_search(
+    sides: [&dyn WordCalls; 2],
+    lists: &WordCase,
+    tally: &mut Tally,
+) -> Result<(), String> {
+    let Ok(Input { size, .. }) = Input::new(&lists.corridor, &lists.demands) else {
+        return Ok(());
+    };
+    let mut case = SearchCase::at(lists.clone(), (0, 0));
+    for k in 0..size.steps {
+        for i in 0..size.nodes() {
+            case.place = (k as u32, i as u32);
+            compare_search(sides, &case, tally)?;
+        }
+    }
+    Ok(())
 }
 
 /// Names of the readers and writers for messages and counts, by the kind's place among all.
@@ -271,6 +305,15 @@ fn compare_limit(
 /// The four calls on words, or on nodes, at a limit of N or K.
 pub fn compare_limit_on_words(sides: [&dyn WordCalls; 2], case: &LimitCase) -> Result<(), String> {
     compare_limit(case, &CALLS_ON_LISTS, |tally| compare_words(sides, &case.lists, tally))
+}
+
+/// The search at the last step and node, at a limit of N or K; with K = 0 there is no step.
+pub fn compare_limit_of_search(sides: [&dyn WordCalls; 2], case: &LimitCase) -> Result<(), String> {
+    let Some(step) = case.k.checked_sub(1) else {
+        return Ok(());
+    };
+    let last = SearchCase::at(case.lists.clone(), (step, case.n));
+    compare_limit(case, &["search"], |tally| compare_search(sides, &last, tally))
 }
 
 /// Each reader, each writer and the two calls on files at a limit of N or K.

@@ -5,14 +5,16 @@
 //! exits. Tests of any side, the model and the host alike.
 
 use crate::calls::{FileCalls, Program, WordCalls};
-use crate::compare::{compare_program, compare_three, compare_words, Series};
+use crate::compare::{compare_program, compare_search, compare_three, compare_words, Series};
 use crate::model::lists::NODE_WORDS;
 use crate::model::program::{three_files, MOST_BYTES};
 use crate::model::record::{ENTRY_WORDS, EXIT_WORDS};
 use crate::model::{Input, Kind, List, Quick, Record, Rules, Size, WHOLE};
 use crate::random::damage::small_case;
 use crate::random::files::{self, file_of, program_input};
+use crate::random::search::search_case;
 use crate::tally::kinds::{by_kind, CALLS_BY_KIND, CALLS_ON_FILES_BY_KIND};
+use crate::tally::search::SEARCHES_BY_KIND;
 use crate::tally::Tally;
 
 /// A list of the oldest kind as the newest kind that it counts as; a record goes with those demands.
@@ -118,6 +120,11 @@ impl WordCalls for Completed<'_, dyn WordCalls + '_> {
         give_back(&lent, work);
         answer
     }
+
+    fn search(&self, lists: [&[u32]; 3], place: (u32, u32), out: &mut [u32]) -> u32 {
+        let [corridor, demands, record] = completed(self.list, lists);
+        self.calls.search([&corridor, &demands, &record], place, out)
+    }
 }
 
 impl FileCalls for Completed<'_, dyn FileCalls + '_> {
@@ -168,10 +175,15 @@ pub fn assert_completed_lists_are_the_same(calls: &dyn WordCalls, list: List) {
     let sides = [calls, &Completed { calls, list }];
     let outcome = series.run(small_case, |case| compare_words(sides, case, &mut tally));
     assert_eq!(outcome, Ok(()));
-    let [simulate, _, convert, normal] = CALLS_BY_KIND[by_kind(list.kinds()[0])];
+    let series = Series::new("completed lists of searches", seed(list) + 5_000_000, 10_000);
+    let outcome = series.run(search_case, |case| compare_search(sides, case, &mut tally));
+    assert_eq!(outcome, Ok(()));
+    let oldest = by_kind(list.kinds()[0]);
+    let [simulate, _, convert, normal] = CALLS_BY_KIND[oldest];
     tally.expect(simulate, &[0, 2, 3, 4, 5, 6], 30);
     tally.expect(convert, &[0, 2, 3, 4, 5, 7, 8, 9, 10, 11, 12, 13], 30);
     tally.expect(normal, &[0, 6, 12], 30);
+    tally.expect(SEARCHES_BY_KIND[oldest], &[0, 2, 3, 4, 5, 7, 8, 9, 10, 11, 12, 13], 30);
 }
 
 /// The same for files.

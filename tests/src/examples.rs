@@ -1,10 +1,11 @@
 //! The worked cases of document 01, the examples of its refusal table and, in modules of their own,
-//! the like for what may leave link N, for the capacity drop and for the off-ramp flow in the
-//! record, as tests of any side: the model, and the host once there is one.
+//! the like for what may leave link N, for the capacity drop, for the off-ramp flow in the record and
+//! for the search, as tests of any side: the model, and the host once there is one.
 
 pub mod capacity_drop;
 pub mod downstream;
 pub mod off_ramps;
+pub mod search;
 
 use crate::calls::{FileCalls, Program, WordCalls};
 use crate::model::files::{words_of, CHECK};
@@ -117,6 +118,8 @@ pub fn assert_word_examples(calls: &dyn WordCalls) {
     off_ramps::assert_lent_records(calls);
     off_ramps::assert_refusals(calls);
     off_ramps::assert_order(calls);
+    search::assert_cases(calls);
+    search::assert_refusals(calls);
 }
 
 /// Case 1, and that rates 60 and 50 have one record and so one normal form.

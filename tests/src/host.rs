@@ -30,6 +30,11 @@ extern "C" {
         plan: *const u32, plan_length: usize, work: *mut u32, work_length: usize,
         normal: *mut u32, normal_length: usize,
     ) -> u32;
+    fn gigorchid_search_words(
+        corridor: *const u32, corridor_length: usize, demands: *const u32, demands_length: usize,
+        record: *const u32, record_length: usize, step: u32, node: u32,
+        out: *mut u32, out_length: usize,
+    ) -> u32;
 }
 
 // SAFETY, for every call: each address and length are those of a slice that lives through it.
@@ -71,6 +76,16 @@ impl WordCalls for Host {
                 corridor.as_ptr(), corridor.len(), demands.as_ptr(), demands.len(),
                 plan.as_ptr(), plan.len(), work.as_mut_ptr(), work.len(),
                 normal.as_mut_ptr(), normal.len(),
+            )
+        }
+    }
+
+    fn search(&self, lists: [&[u32]; 3], place: (u32, u32), out: &mut [u32]) -> u32 {
+        let ([corridor, demands, record], (step, node)) = (lists, place);
+        unsafe {
+            gigorchid_search_words(
+                corridor.as_ptr(), corridor.len(), demands.as_ptr(), demands.len(),
+                record.as_ptr(), record.len(), step, node, out.as_mut_ptr(), out.len(),
             )
         }
     }

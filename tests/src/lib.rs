@@ -1,6 +1,7 @@
 //! Independent tests of Gigorchid: a model written from documents 01 and 02 alone, seeded inputs,
 //! and comparisons of every exported call with the model, word for word.
 
+pub mod alone;
 pub mod calls;
 pub mod capacity_drop;
 pub mod compare;
@@ -19,6 +20,7 @@ pub mod program;
 pub mod properties;
 pub mod random;
 pub mod samples;
+pub mod search;
 mod stack;
 pub mod sweeps;
 pub mod tally;

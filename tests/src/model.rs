@@ -10,6 +10,7 @@ pub mod lists;
 pub mod program;
 pub mod record;
 pub mod rules;
+pub mod search;
 pub mod simulate;
 
 pub use check::check;
@@ -19,6 +20,7 @@ pub use kinds::{Kind, Kinds, List};
 pub use lists::{Input, Node, Size};
 pub use record::{Entry, Record};
 pub use rules::{NodeStep, Paper, Quick, Rules};
+pub use search::{search, Search};
 pub use simulate::simulate;
 
 /// A whole section, a whole step, a whole flow: speeds and splits count in parts of it.

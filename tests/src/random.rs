@@ -4,6 +4,7 @@
 pub mod damage;
 pub mod files;
 pub mod records;
+pub mod search;
 pub mod sound;
 
 /// Splitmix: a counter that is stirred three times for each number.

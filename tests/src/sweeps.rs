@@ -1,12 +1,14 @@
 //! Cases that differ from a given one in one place, every place in turn: each word set to each
 //! limit of some range, to the words beside its own and to those that are the same in fewer bits,
-//! each list and each lent list of another length. What random damage may miss, these do not.
+//! each list and each lent list of another length, each step and node another. What random damage
+//! may miss, these do not.
 
 use crate::limits::same_in_fewer_bits;
 use crate::model::files::{BLOCK_BYTES, CHECK};
 use crate::model::kinds::KINDS;
 use crate::model::{Input, Kind, List, Size};
 use crate::random::files::{change_block, name_kind, FileCase};
+use crate::random::search::SearchCase;
 use crate::random::sound::WordCase;
 
 /// Zero and one, the limits in document 01 and the words beyond them.
@@ -46,9 +48,14 @@ fn words(case: &mut WordCase, list: List) -> &mut Vec<u32> {
 }
 
 /// Calls `visit` with every case in which one word of one list is another.
-pub fn each_word_changed(case: &WordCase, mut visit: impl FnMut(&WordCase)) {
+pub fn each_word_changed(case: &WordCase, visit: impl FnMut(&WordCase)) {
+    each_word_of(&LISTS, case, visit);
+}
+
+/// The same for those lists only.
+fn each_word_of(lists: &[List], case: &WordCase, mut visit: impl FnMut(&WordCase)) {
     let mut changed = case.clone();
-    for list in LISTS {
+    for &list in lists {
         for place in 0..words(&mut changed, list).len() {
             let old = words(&mut changed, list)[place];
             for word in other_words(old) {
@@ -65,27 +72,54 @@ fn other_lengths(length: usize) -> [usize; 5] {
     [0, 1, length - 1, length + 1, 2 * length]
 }
 
-/// Calls `visit` with every case in which one list, or one lent list, has another length; each also
-/// that of each of its kinds, and those beside it.
-pub fn each_length_changed(case: &WordCase, mut visit: impl FnMut(&WordCase)) {
+/// The lengths of each kind of a list, for the size of a sound case, and those beside.
+fn lengths_of_kinds(list: List, case: &WordCase) -> impl Iterator<Item = usize> {
     let size = Input::new(&case.corridor, &case.demands).expect("a sound case").size;
-    let of_kinds = |list: List| {
-        let lengths = list.kinds().iter().map(move |kind| kind.words(size));
-        lengths.flat_map(|length| length - 1..=length + 1)
-    };
-    for list in LISTS {
+    let lengths = list.kinds().iter().map(move |kind| kind.words(size));
+    lengths.flat_map(|length| length - 1..=length + 1)
+}
+
+/// Calls `visit` with every case in which one of those lists has another length, also that of each of
+/// its kinds, and those beside it.
+fn each_length_of(lists: &[List], case: &WordCase, mut visit: impl FnMut(&WordCase)) {
+    for &list in lists {
         let length = words(&mut case.clone(), list).len();
-        for length in other_lengths(length).into_iter().chain(of_kinds(list)) {
+        for length in other_lengths(length).into_iter().chain(lengths_of_kinds(list, case)) {
             let mut changed = case.clone();
             words(&mut changed, list).resize(length, 0);
             visit(&changed);
         }
     }
-    for lent_record in other_lengths(case.lent_record).into_iter().chain(of_kinds(List::Record)) {
+}
+
+/// The same for every list, and every lent list.
+pub fn each_length_changed(case: &WordCase, mut visit: impl FnMut(&WordCase)) {
+    each_length_of(&LISTS, case, &mut visit);
+    let lengths = lengths_of_kinds(List::Record, case);
+    for lent_record in other_lengths(case.lent_record).into_iter().chain(lengths) {
         visit(&WordCase { lent_record, ..case.clone() });
     }
     for lent_plan in other_lengths(case.lent_plan) {
         visit(&WordCase { lent_plan, ..case.clone() });
+    }
+}
+
+/// Calls `visit` with every search in which one word or one length of its lists, its step, its node or
+/// the length of the list to fill is another.
+pub fn each_search_changed(case: &SearchCase, mut visit: impl FnMut(&SearchCase)) {
+    let taken = [List::Corridor, List::Demands, List::Record];
+    let mut with_lists =
+        |lists: &WordCase| visit(&SearchCase { lists: lists.clone(), ..case.clone() });
+    each_word_of(&taken, &case.lists, &mut with_lists);
+    each_length_of(&taken, &case.lists, &mut with_lists);
+    let (step, node) = case.place;
+    let steps = other_words(step).into_iter().map(|step| (step, node));
+    let nodes = other_words(node).into_iter().map(|node| (step, node));
+    for place in steps.chain(nodes) {
+        visit(&SearchCase { place, ..case.clone() });
+    }
+    for lent_out in other_lengths(case.lent_out) {
+        visit(&SearchCase { lent_out, ..case.clone() });
     }
 }
 

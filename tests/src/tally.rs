@@ -5,6 +5,7 @@ pub mod capacity_drop;
 pub mod downstream;
 pub mod kinds;
 pub mod off_ramps;
+pub mod search;
 
 use crate::model::{Input, NodeStep, Quick, Record, Rules, WHOLE};
 use capacity_drop::{drop_happenings, AT_DROPS, WHERE_DROPPED};

@@ -5,6 +5,7 @@ use crate::calls::{FileCalls, WordCalls};
 use crate::model::files::{BLOCK_BYTES, CHECK, FIRST_PAYLOAD, PAYLOAD_WORDS};
 use crate::model::lists::{test_corridor, test_plan};
 use crate::model::record::{ENTRY_WORDS, EXIT_WORDS};
+use crate::model::search::OUT_WORDS;
 use crate::model::{Input, Kind, List, Node, Quick, Size};
 
 /// The words of a node in a state of a record of kind 3, and of kind 7.
@@ -91,26 +92,62 @@ impl Place {
         (sending * self.room / wanted, offer * self.room / wanted)
     }
 
-    /// Rate and limit for the flows of an accepted record.
-    fn setting(&self, flow: u64, ramp_flow: u64) -> (u32, u32) {
+    /// What the link sends at full speed, its through part, and what the ramp can offer.
+    #[inline]
+    fn at_full_speed(&self) -> (u64, u64, u64) {
         let sending = self.sending(self.node.full_speed);
-        let (through, ramp) = (self.through(sending), self.ramp());
-        // A rate above what the ramp can offer gives what that rate itself gives.
-        let (mut low, mut high) = (0, ramp);
-        while low < high {
-            let rate = (low + high) / 2;
-            let (f, r) = self.merge(sending, through, rate);
-            if f <= flow && r >= ramp_flow {
-                high = rate;
-            } else {
-                low = rate + 1;
-            }
-        }
-        if self.merge(sending, through, low) == (flow, ramp_flow) {
-            return (low as u32, self.node.full_speed);
-        }
-        (ramp_flow as u32, (flow << 16).div_ceil(self.vehicles) as u32)
+        (sending, self.through(sending), self.ramp())
     }
+
+    /// The rate by halving. One above what the ramp can offer gives what that rate itself gives.
+    #[inline]
+    fn halved_rate(&self, flow: u64, ramp_flow: u64) -> Option<u64> {
+        let (sending, through, ramp) = self.at_full_speed();
+        halve(ramp, (flow, ramp_flow), |rate| self.merge(sending, through, rate)).1
+    }
+
+    /// The tries and the rate by halving all from 0 to C.
+    #[inline]
+    fn search(&self, flow: u64, ramp_flow: u64) -> (u32, Option<u64>) {
+        let (sending, through, ramp) = self.at_full_speed();
+        let flows = |rate: u64| self.merge(sending, through, rate.min(ramp));
+        halve(self.node.ramp_capacity.into(), (flow, ramp_flow), flows)
+    }
+
+    /// The rate by trying each from 0 to C in turn.
+    #[inline]
+    fn rate_from_zero(&self, flow: u64, ramp_flow: u64) -> Option<u64> {
+        let (sending, through, ramp) = self.at_full_speed();
+        let mut rates = 0..=u64::from(self.node.ramp_capacity);
+        rates.find(|&rate| self.merge(sending, through, rate.min(ramp)) == (flow, ramp_flow))
+    }
+
+    /// Rate and limit for the flows of an accepted record, once a rate is found or none.
+    #[inline]
+    fn setting(&self, rate: Option<u64>, flow: u64, ramp_flow: u64) -> (u32, u32) {
+        match rate {
+            Some(rate) => (rate as u32, self.node.full_speed),
+            None => (ramp_flow as u32, (flow << 16).div_ceil(self.vehicles) as u32),
+        }
+    }
+}
+
+/// Halves the rates from 0 to `most` by the flows that each gives: the tries, and the rate left if it
+/// gives those wanted.
+#[inline]
+fn halve(most: u64, wanted: (u64, u64), flows: impl Fn(u64) -> (u64, u64)) -> (u32, Option<u64>) {
+    let (mut low, mut high, mut tries) = (0, most, 1);
+    while low < high {
+        let rate = (low + high) / 2;
+        let (f, r) = flows(rate);
+        tries += 1;
+        if f <= wanted.0 && r >= wanted.1 {
+            high = rate;
+        } else {
+            low = rate + 1;
+        }
+    }
+    (tries, (flows(low) == wanted).then_some(low))
 }
 
 /// Q and b of all nodes in one step, and the flow that may leave link N in it.
@@ -247,22 +284,49 @@ fn sound_record<const WIDTH: usize>(
     cost == Some(u64::from(end[0]) | u64::from(end[1]) << 32)
 }
 
-/// The plan of a record that is sound.
+/// Node i at step k of a record, and its f and r.
+#[inline]
+fn place_and_flows<const WIDTH: usize>(
+    nodes: &[Node],
+    demands: StepDemands,
+    state: &[u32],
+    i: usize,
+) -> (Place, u64, u64) {
+    let place = Place::new::<WIDTH>(nodes, demands, state, i);
+    (place, state[WIDTH * i + 2].into(), state[WIDTH * i + 3].into())
+}
+
+/// The plan of a record that is sound, with the rates that `find` finds.
 fn settings<const WIDTH: usize>(
     input: &Input,
     nodes: &[Node],
     demands: &[u32],
     record: &[u32],
     plan: &mut [u32],
+    find: impl Fn(&Place, u64, u64) -> Option<u64>,
 ) {
     for (k, plan) in plan.chunks_exact_mut(2 * nodes.len()).enumerate() {
         let (state, _, demands) = step_lists::<WIDTH>(input, demands, record, k);
         for (i, setting) in plan.chunks_exact_mut(2).enumerate() {
-            let place = Place::new::<WIDTH>(nodes, demands, state, i);
-            let flows = (state[WIDTH * i + 2].into(), state[WIDTH * i + 3].into());
-            (setting[0], setting[1]) = place.setting(flows.0, flows.1);
+            let (place, flow, ramp_flow) = place_and_flows::<WIDTH>(nodes, demands, state, i);
+            let rate = find(&place, flow, ramp_flow);
+            (setting[0], setting[1]) = place.setting(rate, flow, ramp_flow);
         }
     }
+}
+
+/// The words of a search at step k and node i of a record that is sound.
+fn searched<const WIDTH: usize>(
+    input: &Input,
+    nodes: &[Node],
+    demands: &[u32],
+    record: &[u32],
+    (k, i): (usize, usize),
+) -> [u32; OUT_WORDS] {
+    let (state, _, demands) = step_lists::<WIDTH>(input, demands, record, k);
+    let (place, flow, ramp_flow) = place_and_flows::<WIDTH>(nodes, demands, state, i);
+    let (tries, rate) = place.search(flow, ramp_flow);
+    [tries, rate.is_some().into(), rate.unwrap_or(0) as u32]
 }
 
 /// The input if refusals 1 to 5 and 7 to 13 let it and a record pass, and the record's kind.
@@ -278,6 +342,31 @@ fn accepted_record<'a>(
         _ => sound_record::<WITHOUT_EXITS>(&input, &nodes, demands, record),
     };
     sound.then_some((input, nodes, kind))
+}
+
+/// The converter with the rates that `find` finds.
+fn convert_by(
+    lists: [&[u32]; 3],
+    plan: &mut [u32],
+    find: impl Fn(&Place, u64, u64) -> Option<u64>,
+) -> u32 {
+    let [corridor, demands, record] = lists;
+    let found = accepted_record(corridor, demands, record);
+    let Some((input, nodes, kind)) = found.filter(|(input, ..)| plan.len() == input.size.plan())
+    else {
+        return Quick.convert(corridor, demands, record, plan);
+    };
+    match kind {
+        Kind::OffRamps => settings::<WITH_EXITS>(&input, &nodes, demands, record, plan, find),
+        _ => settings::<WITHOUT_EXITS>(&input, &nodes, demands, record, plan, find),
+    }
+    0
+}
+
+/// The converter as it would be without halving, on corridor, demands and record: for each node and
+/// step every rate from 0 on, until one gives the flows.
+pub fn convert_by_every_rate(lists: [&[u32]; 3], plan: &mut [u32]) -> u32 {
+    convert_by(lists, plan, Place::rate_from_zero)
 }
 
 impl WordCalls for Yardstick {
@@ -306,17 +395,7 @@ impl WordCalls for Yardstick {
     }
 
     fn convert(&self, corridor: &[u32], demands: &[u32], record: &[u32], plan: &mut [u32]) -> u32 {
-        let found = accepted_record(corridor, demands, record);
-        let Some((input, nodes, kind)) =
-            found.filter(|(input, ..)| plan.len() == input.size.plan())
-        else {
-            return Quick.convert(corridor, demands, record, plan);
-        };
-        match kind {
-            Kind::OffRamps => settings::<WITH_EXITS>(&input, &nodes, demands, record, plan),
-            _ => settings::<WITHOUT_EXITS>(&input, &nodes, demands, record, plan),
-        }
-        0
+        convert_by([corridor, demands, record], plan, Place::halved_rate)
     }
 
     fn normal(
@@ -328,6 +407,22 @@ impl WordCalls for Yardstick {
         normal: &mut [u32],
     ) -> u32 {
         Quick.normal(corridor, demands, plan, work, normal)
+    }
+
+    fn search(&self, lists: [&[u32]; 3], place: (u32, u32), out: &mut [u32]) -> u32 {
+        let [corridor, demands, record] = lists;
+        let (k, i) = (place.0 as usize, place.1 as usize);
+        let within = |input: &Input| k < input.size.steps && i < input.size.nodes();
+        let found = accepted_record(corridor, demands, record)
+            .filter(|(input, ..)| within(input) && out.len() == OUT_WORDS);
+        let Some((input, nodes, kind)) = found else {
+            return Quick.search(lists, place, out);
+        };
+        out.copy_from_slice(&match kind {
+            Kind::OffRamps => searched::<WITH_EXITS>(&input, &nodes, demands, record, (k, i)),
+            _ => searched::<WITHOUT_EXITS>(&input, &nodes, demands, record, (k, i)),
+        });
+        0
     }
 }
 

@@ -1,24 +1,27 @@
 //! The model against documents 01 and 02: the worked cases, the examples of the table, and what they
 //! say of the rules, of the search and of the kinds of corridor, demands and record.
 
-use tests::calls::ByNodes;
+use tests::alone::long_ramp;
+use tests::calls::{ByNodes, WordCalls};
 use tests::capacity_drop::*;
-use tests::compare::{compare_file, compare_words, Series, READERS};
+use tests::compare::{compare_file, compare_search, compare_words, Series, READERS};
 use tests::completed::*;
 use tests::downstream::*;
 use tests::examples::{assert_file_examples, assert_program_examples, assert_word_examples};
-use tests::model::convert::{rate_by_halving, rate_from_zero};
 use tests::model::kinds::KINDS;
 use tests::model::lists::{MOST_LINKS, MOST_STEPS};
+use tests::model::search::rate_from_zero;
 use tests::model::{Kind, List, Paper, Quick, Rules, Size};
 use tests::off_ramps::*;
 use tests::properties::*;
 use tests::random::damage::{full_size, short_ramp_case, small_case};
 use tests::random::files::{change_block, file_case, file_of};
 use tests::random::records::allowed_flows;
+use tests::random::search::{ramp_case, search_case};
+use tests::search::*;
 use tests::tally::kinds::CALLS_BY_KIND;
 use tests::tally::Tally;
-use tests::yardstick::Yardstick;
+use tests::yardstick::{convert_by_every_rate, Yardstick};
 
 #[test]
 fn worked_cases_and_table_on_words() {
@@ -72,6 +75,40 @@ fn yardstick_gives_the_same_answers() {
 }
 
 #[test]
+fn yardstick_searches_alike() {
+    let mut tally = Tally::default();
+    let sides = [&Quick as _, &Yardstick as _];
+    let series = Series::new("yardstick, searches", 400_000_000, 40_000);
+    let outcome = series.run(search_case, |case| compare_search(sides, case, &mut tally));
+    assert_eq!(outcome, Ok(()));
+    let series = Series::new("yardstick, ramps", 410_000_000, 40_000);
+    let outcome = series.run(ramp_case, |case| compare_search(sides, case, &mut tally));
+    tally.print();
+    assert_eq!(outcome, Ok(()));
+    tally.expect_all_searches(100);
+    tally.expect_all_tries(10);
+}
+
+/// The converter that tries every rate, as the benchmarks have it.
+#[test]
+fn every_rate_tried_gives_the_same_plan() {
+    let mut accepted = 0;
+    let series = Series::new("yardstick, every rate", 420_000_000, 5_000);
+    let outcome = series.run(short_ramp_case, |case| {
+        let [corridor, demands, record] = case.proposal();
+        let [mut plan, mut other] = [vec![7; case.lent_plan], vec![7; case.lent_plan]];
+        let answer = Quick.convert(corridor, demands, record, &mut plan);
+        accepted += u32::from(answer == 0);
+        match (convert_by_every_rate(case.proposal(), &mut other), &other) == (answer, &plan) {
+            true => Ok(()),
+            false => Err(format!("{case:?}")),
+        }
+    });
+    assert_eq!(outcome, Ok(()));
+    assert!(accepted > 1_000, "records accepted: {accepted}");
+}
+
+#[test]
 fn both_searches_find_the_same_rate_on_long_ramps() {
     let mut found = 0;
     let outcome = Series::new("long ramps", 2_000_000, 5_000).run(
@@ -82,7 +119,7 @@ fn both_searches_find_the_same_rate_on_long_ramps() {
         |(at, (flow, ramp_flow))| {
             let plain = rate_from_zero::<Paper>(at, *flow, *ramp_flow);
             found += u64::from(plain.is_some());
-            match plain == rate_by_halving::<Quick>(at, *flow, *ramp_flow) {
+            match plain == Quick::find_rate(at, *flow, *ramp_flow) {
                 true => Ok(()),
                 false => Err(format!("{at:?} {flow} {ramp_flow}")),
             }
@@ -181,6 +218,31 @@ fn record_accounts_for_all_vehicles() {
 #[test]
 fn every_exit_is_tested() {
     assert_every_exit_is_tested(&Quick);
+}
+
+#[test]
+fn search_goes_with_the_converter() {
+    assert_search_goes_with_the_converter(&Quick);
+}
+
+#[test]
+fn search_leaves_the_first_without_fault() {
+    assert_search_leaves_the_first_without_fault(&Paper);
+}
+
+#[test]
+fn rate_found_is_the_smallest() {
+    assert_rate_found_is_the_smallest(&Quick);
+}
+
+#[test]
+fn tries_follow_the_capacity() {
+    assert_tries_follow_the_capacity(&Quick);
+}
+
+#[test]
+fn bad_searches_are_refused_first() {
+    assert_bad_searches_are_refused_first(&Quick);
 }
 
 #[test]

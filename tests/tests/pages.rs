@@ -46,6 +46,26 @@ fn worked_lists_are_what_the_calls_compute() {
     }
 }
 
+/// The words that the search leaves for each node of the worked record, and for node 1 where f is 60
+/// and r is 50.
+#[test]
+fn worked_searches_are_what_the_calls_compute() {
+    let [corridor, demands, record, searches] =
+        ["corridor", "demands", "record", "search"].map(words);
+    let mut held = record.clone();
+    let changes = [(6, 60), (7, 50), (16, 140), (17, 10), (20, 195), (24, 375)];
+    changes.into_iter().for_each(|(place, word)| held[place] = word);
+    for side in [&Quick as &dyn WordCalls, &Host] {
+        let search = |record: &[u32], node| {
+            let mut out = [u32::MAX; 3];
+            assert_eq!(side.search([&corridor, &demands, record], (0, node), &mut out), 0);
+            out
+        };
+        assert_eq!([0, 1, 2].map(|node| search(&record, node)).concat(), searches);
+        assert_eq!(search(&held, 1), [6, 0, 0]);
+    }
+}
+
 /// The worked plan with that corridor and those demands has the worked record, but for f of node 2,
 /// n of link 2 after it, and the cost.
 fn assert_out_of_link_2(corridor: &str, demands: &str, out: [u32; 3]) {

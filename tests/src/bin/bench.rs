@@ -1,18 +1,26 @@
 //! Benchmarks at full size: the host's time for each piece of work as a ratio to that of the
-//! yardstick in the same run. Prints a table.
+//! yardstick in the same run. Prints a table. One row is of fewer steps: there the yardstick tries
+//! every rate, as a converter would that does not halve.
 
 use std::hint::black_box;
 use std::time::Instant;
 use tests::calls::WordCalls;
 use tests::host::Host;
 use tests::model::lists::{corridor_of, Node};
-use tests::model::{Input, Kind, Kinds, MOST_QUEUE_LIMIT};
+use tests::model::search::OUT_WORDS;
+use tests::model::{Input, Kind, Kinds, Size, MOST_QUEUE_LIMIT};
 use tests::random::damage::full_size;
 use tests::random::records::record_of_plan;
 use tests::random::Random;
-use tests::yardstick::Yardstick;
+use tests::yardstick::{convert_by_every_rate, Yardstick};
 
 const RUNS: usize = 25;
+
+/// As many as the yardstick can try every rate of in a few seconds.
+const FEW_STEPS: usize = 20;
+
+/// The step and node of the one search, in the middle of the day and of the corridor.
+const SEARCHED: (u32, u32) = (720, 32);
 
 /// The lists that the work is done on.
 struct Lists {
@@ -40,12 +48,11 @@ fn node(random: &mut Random, i: usize, links: usize) -> Node {
     }
 }
 
-/// 64 links and 1,440 steps, every ramp as long as any and with a long queue, some links held and
-/// some with too little room, so that the search for a rate has everything to do. With demands of
-/// kind 5 less may leave the last link in some steps than it sends; with a corridor of kind 10
-/// links pass their drop densities both ways; a record of kind 7 lists the exits.
-fn lists(kinds: Kinds) -> Lists {
-    let size = full_size();
+/// Every ramp is as long as any and has a long queue, some links are held and some have too little
+/// room, so that the search for a rate has everything to do. With demands of kind 5 less may leave
+/// the last link in some steps than it sends; with a corridor of kind 10 links pass their drop
+/// densities both ways; a record of kind 7 lists the exits.
+fn lists(size: Size, kinds: Kinds) -> Lists {
     let mut random = Random::new(1);
     let nodes: Vec<Node> = (0..size.nodes()).map(|i| node(&mut random, i, size.links)).collect();
     let mut demands = vec![size.steps as u32];
@@ -84,6 +91,14 @@ fn shortest(times: Vec<f64>) -> f64 {
     times.into_iter().fold(f64::INFINITY, f64::min)
 }
 
+/// A ratio in hundredths, or as one part of so many where it is less than one.
+fn ratio(host: f64, rust: f64) -> String {
+    match host < rust / 100.0 {
+        true => format!("1/{:.0}", rust / host),
+        false => format!("{:.2}", host / rust),
+    }
+}
+
 /// Prints one line: the shortest times of both sides, run in turn, and their ratio.
 fn compare<T: Copy + Default>(
     name: &str,
@@ -98,7 +113,7 @@ fn compare<T: Copy + Default>(
         times[1].push(time(&mut output, rust));
     }
     let [host, rust] = times.map(shortest);
-    println!("| {name} | {host:.3} | {rust:.3} | {:.2} |", host / rust);
+    println!("| {name} | {host:.3} | {rust:.3} | {} |", ratio(host, rust));
 }
 
 fn bench_words(lists: &Lists, kind: &str) {
@@ -108,6 +123,9 @@ fn bench_words(lists: &Lists, kind: &str) {
     let check = |calls: &dyn WordCalls| calls.check(corridor, demands, record);
     let convert =
         |calls: &dyn WordCalls, out: &mut [u32]| calls.convert(corridor, demands, record, out);
+    let search = |calls: &dyn WordCalls, out: &mut [u32]| {
+        calls.search([corridor, demands, record], SEARCHED, out)
+    };
     let (record_length, plan_length) = (record.len(), plan.len());
     let name = |call: &str| format!("{call}, {kind}");
     compare(&name("simulate"), record_length, &mut |out| simulate(&Host, out), &mut |out| {
@@ -117,6 +135,19 @@ fn bench_words(lists: &Lists, kind: &str) {
     compare(&name("convert"), plan_length, &mut |out| convert(&Host, out), &mut |out| {
         convert(&Yardstick, out)
     });
+    compare(&name("search"), OUT_WORDS, &mut |out| search(&Host, out), &mut |out| {
+        search(&Yardstick, out)
+    });
+}
+
+fn bench_every_rate(lists: &Lists) {
+    let Lists { corridor, demands, plan, record } = lists;
+    compare(
+        &format!("convert, {FEW_STEPS} steps, every rate tried by Rust"),
+        plan.len(),
+        &mut |out| Host.convert(corridor, demands, record, out),
+        &mut |out| convert_by_every_rate([corridor, demands, record], out),
+    );
 }
 
 #[cfg(feature = "files")]
@@ -148,16 +179,18 @@ fn bench_files(oldest: &Lists, newest: &Lists) {
 }
 
 fn main() {
-    let oldest = lists(Kinds::OLDEST);
+    let full = |kinds| lists(full_size(), kinds);
+    let oldest = full(Kinds::OLDEST);
     println!("| 64 links, 1,440 steps | host, ms | Rust, ms | ratio |");
     println!("|-|-|-|-|");
     bench_words(&oldest, "demands of kind 2");
     let downstream = Kinds { demands: Kind::Downstream, ..Kinds::OLDEST };
-    bench_words(&lists(downstream), "demands of kind 5");
+    bench_words(&full(downstream), "demands of kind 5");
     let drop = Kinds { corridor: Kind::CapacityDrop, ..Kinds::OLDEST };
-    bench_words(&lists(drop), "corridor of kind 10");
+    bench_words(&full(drop), "corridor of kind 10");
     let off_ramps = Kinds { record: Kind::OffRamps, ..Kinds::OLDEST };
-    bench_words(&lists(off_ramps), "record of kind 7");
+    bench_words(&full(off_ramps), "record of kind 7");
+    bench_every_rate(&lists(Size { steps: FEW_STEPS, ..full_size() }, Kinds::OLDEST));
     #[cfg(feature = "files")]
-    bench_files(&oldest, &lists(Kinds::NEWEST));
+    bench_files(&oldest, &full(Kinds::NEWEST));
 }

@@ -1,9 +1,8 @@
 //! The converter and the normal form: a setting for each node and step of an accepted record.
 
 use super::lists::{same_length, test_plan};
-use super::rules::flows;
 use super::simulate::run;
-use super::{Input, List, NodeStep, Outcome, Record, Rules};
+use super::{Input, List, Outcome, Record, Rules};
 
 /// A node's setting at a step: full with a rate, or held with a rate at a limit.
 #[derive(Clone, Copy, Debug, PartialEq, Eq)]
@@ -64,9 +63,8 @@ pub fn write_plan<R: Rules>(input: &Input, record: &Record, plan: &mut [u32]) {
 
 /// The setting of node i at step k of an accepted record.
 pub fn setting_at<R: Rules>(input: &Input, record: &Record, k: usize, i: usize) -> Setting {
-    let here = record.entry(k, i);
-    let at = NodeStep::new::<R>(input, record.state(k), k, i);
-    R::setting(&at, here.flow, here.ramp_flow)
+    let (at, flow, ramp_flow) = R::wanted(input, record, k, i);
+    R::setting(&at, flow, ramp_flow)
 }
 
 /// A setting as the plan writes it: full speed is V, which is 0 at node 0.
@@ -75,26 +73,4 @@ pub fn rate_and_limit(input: &Input, i: usize, setting: Setting) -> (u32, u32) {
         Setting::Full(rate) => (rate as u32, input.node(i).full_speed),
         Setting::Held(rate, limit) => (rate as u32, limit as u32),
     }
-}
-
-/// The search in the plainest way: "none" only after every rate from 0 to C has failed.
-pub fn rate_from_zero<R: Rules>(at: &NodeStep, flow: u64, ramp_flow: u64) -> Option<u64> {
-    (0..=at.ramp_capacity).find(|&rate| flows::<R>(at, rate, at.full_speed) == (flow, ramp_flow))
-}
-
-/// The same by halving: as the rate grows f never rises and r never falls, so "f at most, r at
-/// least" holds from some rate on, and the first such rate is the only one that can be smallest.
-pub fn rate_by_halving<R: Rules>(at: &NodeStep, flow: u64, ramp_flow: u64) -> Option<u64> {
-    let (mut low, mut high) = (0, at.ramp_capacity + 1);
-    while low < high {
-        let middle = (low + high) / 2;
-        let (f, r) = flows::<R>(at, middle, at.full_speed);
-        if f <= flow && r >= ramp_flow {
-            high = middle;
-        } else {
-            low = middle + 1;
-        }
-    }
-    let found = low <= at.ramp_capacity && flows::<R>(at, low, at.full_speed) == (flow, ramp_flow);
-    found.then_some(low)
 }

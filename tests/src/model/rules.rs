@@ -1,8 +1,10 @@
 //! The rules that everything else is made of, one function each, so that a wrong variant of the model
 //! differs from the papers in just one of them.
 
-use super::{check, convert, files, lists};
-use super::{Entry, Input, Kind, List, Node, Outcome, Record, Refusal, Setting, Size, WHOLE};
+use super::{check, files, lists, search};
+use super::{
+    Entry, Input, Kind, List, Node, Outcome, Record, Refusal, Search, Setting, Size, WHOLE,
+};
 
 /// One node at one step: all that rules 1 to 5 use, taken from the state at the step's start.
 #[derive(Clone, Copy, Debug)]
@@ -212,9 +214,42 @@ pub trait Rules: Sync + Sized {
         check::check_record::<Self>(input, record)
     }
 
+    /// The step and node that a search is asked for, or refusal 1.
+    fn place(size: Size, step: u32, node: u32) -> Result<(usize, usize), Refusal> {
+        search::place(size, step, node)
+    }
+
+    /// Node i at step k of an accepted record, and its f and r, which a setting must give.
+    fn wanted(input: &Input, record: &Record, k: usize, i: usize) -> (NodeStep, u64, u64) {
+        let here = record.entry(k, i);
+        let at = NodeStep::new::<Self>(input, record.state(k), k, i);
+        (at, here.flow, here.ramp_flow)
+    }
+
+    /// The least and the greatest of the rates left at first.
+    fn rates(at: &NodeStep) -> (u64, u64) {
+        (0, at.ramp_capacity)
+    }
+
+    /// The rate to try of those left.
+    fn middle(low: u64, high: u64) -> u64 {
+        (low + high) / 2
+    }
+
+    /// Whether the rates up to the one tried are kept, given the f and r that it has and those
+    /// wanted.
+    fn keeps_up_to(tried: (u64, u64), wanted: (u64, u64)) -> bool {
+        tried.0 <= wanted.0 && tried.1 >= wanted.1
+    }
+
+    /// The search for a rate at full speed that gives exactly f and r.
+    fn try_rates(at: &NodeStep, flow: u64, ramp_flow: u64) -> Search {
+        search::by_halving::<Self>(at, flow, ramp_flow)
+    }
+
     /// The smallest rate in 0..C that gives exactly f and r at full speed, if there is one.
     fn find_rate(at: &NodeStep, flow: u64, ramp_flow: u64) -> Option<u64> {
-        convert::rate_by_halving::<Self>(at, flow, ramp_flow)
+        Self::try_rates(at, flow, ramp_flow).rate
     }
 
     /// The smallest v with n × v / 65,536 = f. Only asked for where n is not zero, as a node
@@ -247,16 +282,18 @@ pub trait Rules: Sync + Sized {
     }
 }
 
-/// The paper, with the search for a rate in the plainest way: every rate from 0 on.
+/// The papers, with the rate that a search finds looked for in the plainest way, every rate from 0 on;
+/// the tries are those of halving.
 pub struct Paper;
 
 impl Rules for Paper {
-    fn find_rate(at: &NodeStep, flow: u64, ramp_flow: u64) -> Option<u64> {
-        convert::rate_from_zero::<Self>(at, flow, ramp_flow)
+    fn try_rates(at: &NodeStep, flow: u64, ramp_flow: u64) -> Search {
+        let rate = search::rate_from_zero::<Self>(at, flow, ramp_flow);
+        Search { rate, ..search::by_halving::<Self>(at, flow, ramp_flow) }
     }
 }
 
-/// The paper, with the search by halving, for long ramps. The tests hold it against `Paper`.
+/// The papers, with the search by halving, for long ramps. The tests hold it against `Paper`.
 pub struct Quick;
 
 impl Rules for Quick {}

@@ -69,7 +69,7 @@ pub fn allowed_flows(random: &mut Random, at: &NodeStep) -> (u64, u64) {
 }
 
 /// Flows one more or one less than those given, if permitted; otherwise those given.
-fn beside(random: &mut Random, at: &NodeStep, (flow, ramp_flow): (u64, u64)) -> (u64, u64) {
+pub fn beside(random: &mut Random, at: &NodeStep, (flow, ramp_flow): (u64, u64)) -> (u64, u64) {
     let flow_beside = (flow + random.within(0, 2)).saturating_sub(1);
     let ramp_beside = (ramp_flow + random.within(0, 2)).saturating_sub(1);
     match first_fault(at, (flow_beside, ramp_beside)) {

@@ -32,6 +32,11 @@ impl WordCase {
             (Kind::Plan, &self.plan),
         ]
     }
+
+    /// Corridor, demands and the record proposed for them.
+    pub fn proposal(&self) -> [&[u32]; 3] {
+        [&self.corridor, &self.demands, &self.record]
+    }
 }
 
 /// What the amounts of a corridor have in common.

@@ -87,7 +87,7 @@ pub fn kinds_of_files(files: [&[u8]; 3]) -> Kinds {
 
 impl Tally {
     /// Counts an answer for the kinds of all three lists.
-    fn answer_for_kinds(
+    pub(super) fn answer_for_kinds(
         &mut self,
         kinds: Kinds,
         name: impl Fn(usize) -> &'static str,

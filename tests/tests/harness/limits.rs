@@ -1,7 +1,8 @@
 //! Wrong limits of N and K: each too wide by one at one end, in a single call.
 
 use tests::calls::{ByNodes, FileCalls, WordCalls};
-use tests::compare::{compare_limit_of_program, compare_limit_on_files, compare_limit_on_words};
+use tests::compare::{compare_limit_of_program, compare_limit_of_search};
+use tests::compare::{compare_limit_on_files, compare_limit_on_words};
 use tests::limits::{limit_cases, LimitCase};
 use tests::model::{refuse_if, List, Quick, Refusal, Rules, Size};
 
@@ -36,6 +37,10 @@ fn assert_wide_limit_found<R: Rules + Copy>(wide: R, in_program: bool) {
             assert_accepted(compare_limit_on_words([&Quick, &variant], case));
             let variant = InOneCall(call, ByNodes(wide));
             assert_accepted(compare_limit_on_words([&ByNodes(Quick), &variant], case));
+        }
+        // Where there is no step there is no search that could be taken.
+        if case.k > 0 {
+            assert_accepted(compare_limit_of_search([&Quick, &InOneCall(4, wide)], case));
         }
         for call in 0..10 {
             let variant = InOneCall(call, wide);
@@ -79,6 +84,10 @@ impl<C: WordCalls> WordCalls for InOneCall<C> {
         normal: &mut [u32],
     ) -> u32 {
         self.word_calls(3).normal(corridor, demands, plan, work, normal)
+    }
+
+    fn search(&self, lists: [&[u32]; 3], place: (u32, u32), out: &mut [u32]) -> u32 {
+        self.word_calls(4).search(lists, place, out)
     }
 }
 

@@ -9,13 +9,17 @@ mod outputs;
 mod program;
 mod properties;
 mod records;
+mod search;
 mod steps;
 
 use tests::calls::{FileCalls, Program, WordCalls};
-use tests::compare::{compare_file, compare_program, compare_three, compare_words, Series};
+use tests::compare::{
+    compare_file, compare_program, compare_search, compare_three, compare_words, Series,
+};
 use tests::model::{refuse_if, Kind, List, Paper, Quick, Refusal, Size};
 use tests::random::damage::small_case;
 use tests::random::files::{file_case, program_input, three_files};
+use tests::random::search::{ramp_case, search_case};
 use tests::tally::Tally;
 
 /// Wrong variants of the rules: a struct for each, which replaces what its braces hold, and a
@@ -64,6 +68,13 @@ fn words_outcome(variant: &dyn WordCalls) -> Result<(), String> {
     series.run(small_case, |case| compare_words([&Quick, variant], case, &mut Tally::default()))
 }
 
+fn search_outcome(variant: &dyn WordCalls) -> Result<(), String> {
+    let sides = [&Quick, variant];
+    let series = Series { name: "searches", seed: 0, count: 20_000 };
+    series.run(search_case, |case| compare_search(sides, case, &mut Tally::default()))?;
+    series.run(ramp_case, |case| compare_search(sides, case, &mut Tally::default()))
+}
+
 fn files_outcome(variant: &dyn FileCalls) -> Result<(), String> {
     let series = Series { name: "files", seed: 0, count: 10_000 };
     series.run(file_case, |case| compare_file([&Quick, variant], case, &mut Tally::default()))?;
@@ -107,6 +118,14 @@ fn wrong_exits_are_found() {
 }
 
 #[test]
+fn wrong_searches_are_found() {
+    let calls = search::call_variants().into_iter().chain(outputs::search_variants());
+    for (name, variant) in search::variants().into_iter().chain(calls) {
+        assert_found(name, search_outcome(variant));
+    }
+}
+
+#[test]
 fn wrong_outputs_are_found() {
     for (name, variant) in outputs::variants() {
         assert_found(name, words_outcome(variant));
@@ -144,6 +163,7 @@ fn nothing_is_found_where_nothing_is_wrong() {
     let mut tally = Tally::default();
     let outcome = series.run(small_case, |case| compare_words([&Quick, &Quick], case, &mut tally));
     assert_eq!(outcome, Ok(()));
+    assert_eq!(search_outcome(&Quick), Ok(()));
     assert_eq!(files_outcome(&Paper), Ok(()));
     assert_eq!(program_outcome(&Quick), Ok(()));
 }

@@ -707,6 +707,10 @@ impl WordCalls for Wrong {
         }
         answer
     }
+
+    fn search(&self, lists: [&[u32]; 3], place: (u32, u32), out: &mut [u32]) -> u32 {
+        Quick.search(lists, place, out)
+    }
 }
 
 pub fn call_variants() -> Vec<(&'static str, &'static dyn WordCalls)> {

@@ -98,6 +98,13 @@ impl WordCalls for Wrong {
         self.spoil(answer, &lent_normal, normal);
         self.answer(answer)
     }
+
+    fn search(&self, lists: [&[u32]; 3], place: (u32, u32), out: &mut [u32]) -> u32 {
+        let lent = out.to_vec();
+        let answer = Quick.search(lists, place, out);
+        self.spoil(answer, &lent, out);
+        self.answer(answer)
+    }
 }
 
 pub fn variants() -> Vec<(&'static str, &'static dyn WordCalls)> {
@@ -115,4 +122,17 @@ pub fn variants() -> Vec<(&'static str, &'static dyn WordCalls)> {
         ("RowAndNodeSwapped", &RowAndNodeSwapped),
         ("PlaceLeftOut", &PlaceLeftOut),
     ]
+}
+
+/// Those that bear on the search too.
+pub fn search_variants() -> Vec<(&'static str, &'static dyn WordCalls)> {
+    let names = [
+        "WritesOnRefusal",
+        "OutputLeftAsLent",
+        "RefusesAll",
+        "OneFixedPlan",
+        "RowAndNodeSwapped",
+        "PlaceLeftOut",
+    ];
+    variants().into_iter().filter(|(name, _)| names.contains(name)).collect()
 }

@@ -1,6 +1,6 @@
 //! Shows that demand 3 and the properties bite: each fails for wrong variants that contradict it.
 
-use super::{capacity_drop, files, off_ramps, outputs, program, records, steps, wrong};
+use super::{capacity_drop, files, off_ramps, outputs, program, records, search, steps, wrong};
 use std::any::Any;
 use std::panic::{catch_unwind, AssertUnwindSafe};
 use tests::calls::{FileCalls, Program, WordCalls};
@@ -11,6 +11,7 @@ use tests::downstream::*;
 use tests::model::{List, NodeStep, Quick};
 use tests::off_ramps::*;
 use tests::properties::*;
+use tests::search::*;
 
 wrong! { rate_variants: WordCalls;
     /// Rates 0 and 1 change places, 2 and 3, and so on.
@@ -24,7 +25,7 @@ wrong! { rate_variants: WordCalls;
 /// What a property is asked of, and the names of variants for which it fails.
 type Broken<C> = (fn(&C), &'static [&'static str]);
 
-const OF_WORDS: [Broken<dyn WordCalls>; 18] = [
+const OF_WORDS: [Broken<dyn WordCalls>; 23] = [
     (
         |calls| assert_vehicles_are_conserved(calls),
         &["ThroughRoundedDown", "EverythingThrough", "AnyFlowLeaves"],
@@ -52,7 +53,12 @@ const OF_WORDS: [Broken<dyn WordCalls>; 18] = [
     ),
     (
         |calls| assert_completed_lists_are_the_same(calls, List::Demands),
-        &["KindTwoCountsAsOneLess", "DownstreamRefused", "DownstreamBelowWhole"],
+        &[
+            "KindTwoCountsAsOneLess",
+            "DownstreamRefused",
+            "DownstreamBelowWhole",
+            "DownstreamRefusedBySearch",
+        ],
     ),
     (
         |calls| assert_completed_lists_are_the_same(calls, List::Corridor),
@@ -62,6 +68,7 @@ const OF_WORDS: [Broken<dyn WordCalls>; 18] = [
             "DroppedCapacityBelowCapacity",
             "DropDensityBelowJam",
             "NoneCountsAsZeros",
+            "DropRefusedBySearch",
         ],
     ),
     (
@@ -77,6 +84,7 @@ const OF_WORDS: [Broken<dyn WordCalls>; 18] = [
             "FormOfSevenUnchanged",
             "WorkOfSevenRefused",
             "WorkOfSevenLeftAloneOnTwelve",
+            "ExitsRefusedBySearch",
         ],
     ),
     (
@@ -142,6 +150,99 @@ const OF_WORDS: [Broken<dyn WordCalls>; 18] = [
     (
         |calls| assert_links_come_before_the_kind(calls),
         &["LengthBeforeLinks", "NewestLengthBeforeLinks", "LongerCorridorTaken"],
+    ),
+    (
+        |calls| assert_search_goes_with_the_converter(calls),
+        &[
+            "LastRateWhereNone",
+            "RampFlowWhereNone",
+            "RateAsLentWhereNone",
+            "FoundBeforeTries",
+            "NodeNRefused",
+            "LastStepRefused",
+            "NoTriesWhereNone",
+            "EighteenTriesAlways",
+            "RatesUpToWhole",
+            "LaterStepsUntested",
+            "LaterNodesUntested",
+            "CostUntested",
+            "WritesOnRefusal",
+            "DropRefusedBySearch",
+        ],
+    ),
+    (
+        |calls| assert_search_leaves_the_first_without_fault(calls),
+        &[
+            "RatesFromOne",
+            "RatesUpToOffer",
+            "RatesBelowCapacity",
+            "RatesUpToOneMore",
+            "RatesFromRampFlow",
+            "MiddleRoundedUp",
+            "QuarterTried",
+            "KeptOnMainlineAlone",
+            "KeptOnRampAlone",
+            "KeptOnEither",
+            "KeptOnlyWithLessMainline",
+            "KeptOnlyWithMoreOfTheRamp",
+            "KeptOnlyWhereGiven",
+            "OtherHalfKept",
+            "LastNotCounted",
+            "EachRateCountedOnce",
+            "LastCountedTwiceIfNew",
+            "EndedWhereGiven",
+            "EndedWhereNoneCanBe",
+            "CapacityTriedFirst",
+            "NoTriesWhereNone",
+            "MostTriesAlways",
+            "FewestTriesAlways",
+            "EveryRateTried",
+            "FoundWithoutFault",
+            "FoundOnMainlineAlone",
+            "FoundOnRampAlone",
+            "GreatestRateFound",
+        ],
+    ),
+    (
+        |calls| assert_rate_found_is_the_smallest(calls),
+        &["GreatestRateFound", "FoundAlways", "FoundOnRampAlone", "RatesUpToWhole"],
+    ),
+    (
+        |calls| assert_tries_follow_the_capacity(calls),
+        &[
+            "RatesFromOne",
+            "RatesBelowCapacity",
+            "RatesUpToOneMore",
+            "MiddleRoundedUp",
+            "LastNotCounted",
+            "EachRateCountedOnce",
+            "NoTryWithoutARamp",
+            "TwoTriesAtLeast",
+            "SeventeenTriesAtMost",
+            "MostTriesAlways",
+            "FewestTriesAlways",
+        ],
+    ),
+    (
+        |calls| assert_bad_searches_are_refused_first(calls),
+        &[
+            "StepOfKTaken",
+            "NodePastNTaken",
+            "NodesCountedOn",
+            "StepIn16Bits",
+            "StepIn31Bits",
+            "NodeIn8Bits",
+            "NodeIn16Bits",
+            "NodeIn31Bits",
+            "BadPlaceNamed",
+            "LongerOutTaken",
+            "ShorterOutTaken",
+            "PlaceTestedAfterLists",
+            "PlaceTestedLast",
+            "OutTestedAfterLists",
+            "OutTestedLast",
+            "WritesOnRefusal",
+        ],
     ),
     (
         |calls| assert_demand_three(calls, 400, 4),
@@ -236,6 +337,8 @@ pub fn assert_properties_broken() {
         capacity_drop::misread_variants(),
         off_ramps::variants(),
         off_ramps::call_variants(),
+        search::variants(),
+        search::call_variants(),
         outputs::variants(),
         rate_variants(),
     ];
