@@ -55,7 +55,7 @@ pub record SearchedAt (corridor demands words : List ℕ) (k i : ℕ) : Type 0 w
 
 -- ---- worked: B of document 01
 
--- B with this C and this start queue at node 1, and its record where node 1 has rate 0: f and r, and then n of links 1 and 2, l of ramp 1 and the cost
+-- B with this C at node 1, and its record where node 1 has rate 0
 abbrev pub corridorWith : ℕ → List ℕ
 corridorWith capacity =
     2

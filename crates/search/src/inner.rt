@@ -35,7 +35,7 @@ fn place_fits(corridor: &[u32], demands: &[u32], step: u32, node: u32, fits: boo
         return false;
     }
     if (step as usize) < words::steps_of(demands) {
-        if node as usize <= words::links_of(corridor) {
+        if (node as usize) <= words::links_of(corridor) {
             return fits;
         }
     }

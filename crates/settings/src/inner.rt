@@ -182,8 +182,8 @@ pub fn setting_for(junction: Junction, wanted: Flows) -> Setting
     requires { ⌜ (junction .state .vehicles .0 ≤ 65536) × (wanted .main .0 ≤ junction .state .vehicles .0) ⌝ }
     ensures { λ r. ⌜ r ≡ settingFor (junctionOf junction) (flowsOf wanted) ⌝ }
 {
-    let search = search(junction, wanted);
-    let found = search.found;
+    let done = search(junction, wanted);
+    let found = done.found;
     let Found::Rate(rate) = found else {
         let ramp = wanted.ramp;
         return Setting::Held(ramp, held_limit(junction.state.vehicles, wanted.main));
