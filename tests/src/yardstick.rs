@@ -22,7 +22,9 @@ fn accepted<'a>(corridor: &'a [u32], demands: &'a [u32]) -> Option<(Input<'a>, V
     sound_demands(input.size, demands).then_some((input, nodes))
 }
 
-/// Whether refusal 5 lets demands of either kind pass.
+/// Whether refusal 5 lets demands of either kind pass. A call of its own: in the midst of others its
+/// loop takes longer.
+#[inline(never)]
 fn sound_demands(size: Size, demands: &[u32]) -> bool {
     let mut rows = demands[1..size.demands()].chunks_exact(2 * size.nodes());
     demands[1..].iter().all(|&word| word <= 65_536)
