@@ -1,14 +1,13 @@
 -- The worked cases hold by computation.
 use mathlib.Core.Path.{refl}
-use Rattle.tables.specs.Halving.{halvedIn, halving}
 use Rattle.tables.specs.Least.{leastFrom}
 use Rattle.road.specs.Step.{discharge, sending, exit, through, offer, receiving, passed, merge, flowsWith}
-use Rattle.settings.specs.Rate.{fullFlows, gives, reaches, candidate, search, rateFor}
+use Rattle.settings.specs.Rate.{fullFlows, gives, rateFor}
 use Rattle.settings.specs.Setting.{heldLimit, settingFor}
 use Rattle.settings.specs.Cases.{Cases}
 
 pub cases : Cases
-unfolding leastFrom discharge sending exit through offer receiving passed merge flowsWith fullFlows gives rateFor heldLimit settingFor halvedIn halving reaches candidate search
+unfolding leastFrom discharge sending exit through offer receiving passed merge flowsWith fullFlows gives rateFor heldLimit settingFor
 cases =
     record {
       case-1-sending = refl;
@@ -26,6 +25,4 @@ cases =
       case-9 = refl;
       case-9-full = refl;
       case-10 = refl;
-      search-1 = refl;
-      search-3 = refl;
     }

@@ -3,11 +3,8 @@ use Prim.Native.Nat.{ℕ, _+_, _*_, _/_}
 use mathlib.Core.Path.{_≡_}
 use Rattle.road.specs.Corridor.{Link, Ramp, Flows}
 use Rattle.road.specs.Step.{Junction, sending, through, receiving, flowsWith}
-use Rattle.settings.specs.declared.Found.the-variants.{Rate, Nothing}
-use Rattle.settings.specs.declared.Search.{Search}
 use Rattle.settings.specs.declared.Setting.{Setting}
 use Rattle.settings.specs.declared.Setting.the-variants.{Full, Held}
-use Rattle.settings.specs.Rate.{search}
 use Rattle.settings.specs.Setting.{settingFor}
 
 -- links 1 and 2
@@ -50,13 +47,6 @@ full rate = Full (record { 0 = rate })
 abbrev pub held : ℕ → ℕ → Setting
 held rate limit = Held (record { 0 = rate }) (record { 0 = limit })
 
--- what a search comes to that finds a rate, and one that finds none
-abbrev pub finds : ℕ → ℕ → Search
-finds tries rate = record { found = Rate (record { 0 = rate }); tries = tries }
-
-abbrev pub finds-none : ℕ → Search
-finds-none tries = record { found = Nothing; tries = tries }
-
 pub record Cases : Type 0 where
   pub case-1-sending : sending link 200 32768 ≡ 100
   pub case-1-total : through 100 16384 + 50 ≡ 125
@@ -73,6 +63,3 @@ pub record Cases : Type 0 where
   pub case-9 : settingFor (nodeNine 2) (flows 1 0) ≡ held 0 1
   pub case-9-full : settingFor (nodeNine 1) (flows 1 0) ≡ full 0
   pub case-10 : through 1 32768 ≡ 1
-  -- request 02: of 0..60 it tries 30, 45, 53, 49, 51, 50, and 50 once more, which is the one left; for case 3 it tries 30, 45, 53, 57, 59 and 60
-  pub search-1 : search (nodeOne 200 200) (flows 80 40) ≡ finds 7 50
-  pub search-3 : search (nodeOne 200 200) (flows 60 50) ≡ finds-none 6

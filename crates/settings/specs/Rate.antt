@@ -29,7 +29,7 @@ reaches junction wanted rate =
 unfoldable pub candidate : Junction → Flows → Halved
 candidate junction wanted = halving (reaches junction wanted) (junction .ramp .capacity)
 
--- "at last it tries the one left": it is the rate found where it gives f and r, and none is where it does not
+-- "at last it tries the one left": where that gives f and r it is the rate found, and otherwise none is found
 unfoldable pub search : Junction → Flows → Search
 search junction wanted =
     record {
