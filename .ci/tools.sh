@@ -1,11 +1,38 @@
 #!/usr/bin/env bash
-# Installs what the steps run beside rt, gcc and cargo, where it is missing: g++ and valgrind (Debian). Fails where that cannot be done.
+# Installs what the steps run beside rt, gcc and cargo, where it is missing: the Debian packages below. Fails where that cannot be done.
 set -euo pipefail
 
-missing=()
-for tool in g++ valgrind; do
-    command -v "$tool" > /dev/null || missing+=("$tool")
-done
+# A package, and the command or, for /usr/bin/python3, the module that shows that it is there.
+packages='
+g++ command g++
+valgrind command valgrind
+pkg-config command pkg-config
+groff-base command groff
+python3-numpy module numpy
+python3-pandas module pandas
+python3-click module click
+python3-rich module rich
+python3-pytest module pytest
+python3-hypothesis module hypothesis
+'
+
+# is_there KIND NAME: whether the command or the module is there
+is_there() {
+    case $1 in
+    command) command -v "$2" > /dev/null ;;
+    module) /usr/bin/python3 -c "import sys, importlib.util; sys.exit(importlib.util.find_spec('$2') is None)" 2> /dev/null ;;
+    esac
+}
+
+# absent: the packages that are not there
+absent() {
+    local package kind name
+    while read -r package kind name; do
+        [ -z "$package" ] || is_there "$kind" "$name" || echo "$package"
+    done <<< "$packages"
+}
+
+mapfile -t missing < <(absent)
 [ "${#missing[@]}" -gt 0 ] || exit 0
 
 # fail WHY: says what is missing, and ends
@@ -23,6 +50,6 @@ fi
 install=(env DEBIAN_FRONTEND=noninteractive apt-get)
 "${as_root[@]}" "${install[@]}" update || fail "apt-get update failed"
 "${as_root[@]}" "${install[@]}" install --yes --no-install-recommends "${missing[@]}" || fail "apt-get install failed"
-for tool in "${missing[@]}"; do
-    command -v "$tool" > /dev/null || fail "apt-get did not bring $tool"
+for package in $(absent); do
+    fail "apt-get did not bring $package"
 done

@@ -1,6 +1,7 @@
 /* Gigorchid: simulator, checker, converter, rate search and normal form of freeway metering plans, for C (C99 on) and C++ (C++11 on).
  *
- * Link with libhost.a, which `rt staticlib host` makes of the Gigorchid sources (cc host.c libhost.a); of the C library it needs memcpy and
+ * Link with libhost.a, which `rt staticlib host` makes of the Gigorchid sources (cc host.c libhost.a), or with the library of the Debian
+ * package, shared or static, which is the same code (cc host.c $(pkg-config --cflags --libs gigorchid)). Of the C library it needs memcpy and
  * memset. It is built for x86-64 Linux. This header says all that a caller must know; docs/MODEL.md of the sources says it at length.
  *
  * Slices. Every list is lent as an address and a count of its elements: words (uint32_t), bytes (uint8_t) or nodes (struct gigorchid_node).
@@ -97,13 +98,13 @@
 #include <stddef.h>
 #include <stdint.h>
 
-/* The version of this header and of the library that comes with it; the library itself does not tell. New in 0.5.0 is gigorchid_search_words,
- * and the text of refusal 1 speaks of its step and node. Code for 0.4.0 need not change, nor be compiled anew: every other call answers and
- * writes what it did, and the converter takes less time. */
+/* The version of this header and of the library that comes with it; the library itself does not tell. New in 0.6.0 is that the library also
+ * comes as a shared one, in a Debian package. Every call answers and writes what it did in 0.5.0, and code for it need not change, nor be
+ * compiled anew. */
 #define GIGORCHID_VERSION_MAJOR 0
-#define GIGORCHID_VERSION_MINOR 5
+#define GIGORCHID_VERSION_MINOR 6
 #define GIGORCHID_VERSION_PATCH 0
-#define GIGORCHID_VERSION_TEXT "0.5.0"
+#define GIGORCHID_VERSION_TEXT "0.6.0"
 /* The three as one number, to compare: 10,000 x major + 100 x minor + patch. */
 #define GIGORCHID_VERSION (GIGORCHID_VERSION_MAJOR * 10000 + GIGORCHID_VERSION_MINOR * 100 + GIGORCHID_VERSION_PATCH)
 
