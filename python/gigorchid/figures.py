@@ -1,0 +1,74 @@
+"""Figures that this package sums up itself from the words of a record. The record is proved; none of these is."""
+
+from __future__ import annotations
+
+from fractions import Fraction
+from typing import NamedTuple
+
+import numpy as np
+
+from . import layout
+from .records import Record
+from .units import UNITS_PER_VEHICLE
+
+MARK = "*"
+NOT_PROVED = f"{MARK} computed by this tool from the record's words, not proved"
+
+
+class Travel(NamedTuple):
+    """What a record comes to on the road; kilometres and speed are None where a length is missing."""
+
+    hours_on_links: Fraction
+    hours_in_queues: Fraction
+    kilometres: Fraction | None
+
+    @property
+    def hours(self) -> Fraction:
+        """Vehicle hours on links and in queues."""
+        return self.hours_on_links + self.hours_in_queues
+
+    @property
+    def mean_speed(self) -> Fraction | None:
+        """Kilometres per hour on the links."""
+        return self.kilometres / self.hours_on_links if self.kilometres and self.hours_on_links else None
+
+
+def travel(record: Record) -> Travel:
+    """Vehicle hours over states 1 to K, and vehicle kilometres of what left each link."""
+    hours = Fraction(record.clock.step, 3600 * UNITS_PER_VEHICLE)
+    on_links, in_queues = (_sum(values[1:]) * hours for values in (record.vehicles, record.queues))
+    lengths = [node.length for node in record.corridor.nodes[1:]]
+    if None in lengths:
+        return Travel(on_links, in_queues, None)
+    left = record.flows[:, 1:].sum(axis=0, dtype=np.uint64).tolist()
+    metres = sum((length * flow for length, flow in zip(lengths, left)), Fraction(0))
+    return Travel(on_links, in_queues, metres / (1000 * UNITS_PER_VEHICLE))
+
+
+def waiting_hours(record: Record, node: int) -> Fraction:
+    """Vehicle hours in the queue of one ramp."""
+    return Fraction(_sum(record.queues[1:, node])) * record.clock.step / (3600 * UNITS_PER_VEHICLE)
+
+
+def _sum(values: layout.Words) -> int:
+    return int(values.sum(dtype=np.uint64))
+
+
+class GreatestQueue(NamedTuple):
+    """The longest queue of a ramp, its limit, and the state in which it first stands so long."""
+
+    node: int
+    queue: int
+    limit: int
+    state: int
+
+
+def greatest_queues(record: Record) -> list[GreatestQueue]:
+    """The longest queue of each on-ramp, a word of the record."""
+    found = []
+    for node in range(record.corridor.links):
+        if record.corridor.word(node, layout.RAMP_CAPACITY) or record.queues[:, node].any():
+            state = int(record.queues[:, node].argmax())
+            limit = record.corridor.word(node, layout.QUEUE_LIMIT)
+            found.append(GreatestQueue(node, int(record.queues[state, node]), limit, state))
+    return found

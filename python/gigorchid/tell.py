@@ -1,0 +1,500 @@
+"""Refusals in people's terms: the cells that a refusal's place came from, and a sentence that says what is wrong there.
+
+Where a place has several words, which of them is at fault is asked of the library itself: with one word changed, does it still refuse there?
+"""
+
+from __future__ import annotations
+
+from collections.abc import Callable, Iterable
+from fractions import Fraction
+from typing import TYPE_CHECKING
+
+import numpy as np
+
+from . import calls, layout, probe
+from .layout import Words
+from .corridor import NO_LIMIT
+from .refusals import Refusal
+from .sheets import Cell
+from .sizes import BLOCK_BYTES, KINDS, MOST_LINKS, MOST_STEPS, file_bytes, file_kind, list_words
+from .units import ONE, SYMBOLS, UNITS_PER_VEHICLE, decimal, factor, tidy, told_apart
+
+if TYPE_CHECKING:
+    from .corridor import Corridor
+    from .plans import Plan
+    from .project import Project
+    from .records import Record
+
+Ask = Callable[[Words], object]
+
+
+class Told(Refusal):
+    """A refusal with the cells that it speaks of, what is wrong there, and what else the record shows."""
+
+    def __init__(self, refusal: Refusal, sentence: str, cells: Iterable[Cell | None] = (), rest: Iterable[str] = ()):
+        super().__init__(refusal.number, refusal.row, refusal.node, refusal.call, refusal.work)
+        self.sentence = sentence
+        self.cells = [cell for cell in cells if cell is not None]
+        self.rest = list(rest)
+
+    def __str__(self) -> str:
+        place = f"{self.cells[0].place}: " if self.cells else ""
+        return f"{place}{self.sentence} [refusal {self.number}]"
+
+    def __reduce__(self) -> tuple[object, ...]:
+        plain = Refusal(self.number, self.row, self.node, self.call, self.work)
+        return (Told, (plain, self.sentence, self.cells, self.rest))
+
+    def as_json(self) -> dict[str, object]:
+        """The refusal as commands print it with --json."""
+        return {
+            "refusal": self.number,
+            "row": self.row,
+            "node": self.node,
+            "text": self.text,
+            "call": self.call,
+            "told": self.sentence,
+            "cells": [cell.as_json() for cell in self.cells],
+            "rest": self.rest,
+        }
+
+
+def of_plan(refusal: Refusal, project: Project, plan: Plan) -> Told:
+    """A refusal of a call that was given a plan."""
+    if refusal.number == 6:
+        return _bounds(refusal, project, plan)
+    if refusal.number == 12:
+        return _overflow_of_plan(refusal, project, plan)
+    return _of_lists(refusal, project)
+
+
+def of_record(refusal: Refusal, project: Project, record: Record) -> Told:
+    """A refusal of a call that was given a record."""
+    if refusal.number <= 5:
+        return _of_lists(refusal, project)
+    if refusal.number == 13:
+        wrong = f"the cost is {record.cost:,}, which is not the sum of all vehicles and queues over states 1 to {project.steps:,}"
+        return Told(refusal, wrong, [record.cost_cell])
+    return _RECORD[refusal.number](refusal, project, record)
+
+
+def of_file(refusal: Refusal, file: str, place: str, content: bytes, links: int, steps: int) -> Told:
+    """A refusal of a reader of block files."""
+    block = f"block {refusal.row}, bytes {refusal.row * BLOCK_BYTES:,} to {(refusal.row + 1) * BLOCK_BYTES - 1:,},"
+    kinds = " or ".join(map(str, KINDS[place]))
+    found = int.from_bytes(content[refusal.row * BLOCK_BYTES :][:4], "little")
+    sentences = {
+        1: f"{links:,} links and {steps:,} steps: a file has 1 to {MOST_LINKS} links and 1 to {MOST_STEPS:,} steps, and its own",
+        15: f"{block} has a wrong check word: it was changed after it was written",
+        16: f"{block} is of kind {found:,}: expected {kinds}, a {place}",
+        17: f"{block} has the number of another block",
+        18: f"{block} has words after the end of the list that are not zero",
+    }
+    if refusal.number == 14:
+        wanted = file_bytes(list_words(place, file_kind(place, content), links, steps))
+        sentences[14] = f"{len(content):,} bytes: a {place} of {links} links and {steps:,} steps has {wanted:,}"
+    return Told(refusal, sentences[refusal.number], [Cell(file)])
+
+
+# ---- words in people's units ----
+
+
+def vehicles(word: int) -> Fraction:
+    """A count of vehicles."""
+    return Fraction(word, UNITS_PER_VEHICLE)
+
+
+def _per_hour(word: int, project: Project) -> str:
+    return f"{tidy(decimal(word / factor('vph', project.clock.step), 1))} veh/h"
+
+
+def _speed(word: int, node: int, project: Project) -> str:
+    length = project.corridor.nodes[node].length
+    if length is None:
+        return f"{word:,} units"
+    return f"{tidy(decimal(word / factor('kmh', project.clock.step, length), 1))} km/h"
+
+
+def _given(cell: Cell | None, word: int) -> str:
+    """What was written in a cell, with its unit."""
+    if cell is None or not cell.text:
+        return f"{word:,} units"
+    ending = cell.column.rpartition("_")[2]
+    return f"{cell.text} {SYMBOLS[ending]}" if ending in SYMBOLS else cell.text
+
+
+# ---- which word of a place is at fault ----
+
+
+def _refuses(ask: Ask, words: Words, refusal: Refusal) -> bool:
+    """Whether the library, asked again, refuses by the same number at the same place."""
+    try:
+        ask(words)
+    except Refusal as again:
+        return again.answer == refusal.answer
+    return False
+
+
+def _at_fault(
+    refusal: Refusal, words: Words, groups: list[list[int]], ask: Ask, trials: Iterable[int] = ()
+) -> list[int]:
+    """Which groups of places of a list are at fault, where the places of a group have one cell between them.
+
+    A change of one group alone to some trial value ends the refusal; or, where several are at fault, the refusal stays while all the
+    others are changed.
+    """
+    values = [0, 1, ONE, *trials]
+
+    def stays(changed: list[list[int]]) -> bool:
+        return all(_refuses(ask, _changed(words, sum(changed, []), value), refusal) for value in values)
+
+    numbered = range(len(groups))
+    alone = [each for each in numbered if not stays([groups[each]])]
+    several = [each for each in numbered if stays(groups[:each] + groups[each + 1 :])]
+    return alone or several or list(numbered)
+
+
+def _changed(words: Words, places: list[int], value: int) -> Words:
+    other = words.copy()
+    other[places] = value
+    return other
+
+
+# ---- refusals 1 to 5: corridor and demands ----
+
+
+def _of_lists(refusal: Refusal, project: Project) -> Told:
+    return _LISTS[refusal.number](refusal, project)
+
+
+def _closed_plan(project: Project) -> Words:
+    """Rate and limit zero everywhere: within bounds whatever the corridor."""
+    return np.zeros(2 * project.steps * (project.links + 1), dtype=np.uint32)
+
+
+def _ask_corridor(project: Project) -> Ask:
+    return lambda words: calls.simulate_words(words, project.demands.words, _closed_plan(project))
+
+
+def _ask_demands(project: Project) -> Ask:
+    return lambda words: calls.simulate_words(project.corridor.words, words, _closed_plan(project))
+
+
+def _sizes(refusal: Refusal, project: Project) -> Told:
+    """1: of a project's own lists only N or K can be at fault, since their lengths are made from them."""
+    one_step = np.concatenate([[1], np.zeros(2 * (project.links + 1))]).astype(np.uint32)
+    plan = np.zeros(2 * (project.links + 1), dtype=np.uint32)
+    if _refuses(lambda words: calls.simulate_words(words, one_step, plan), project.corridor.words, refusal):
+        wrong = f"{len(project.corridor.nodes)} nodes are {project.links} links: a corridor has 1 to {MOST_LINKS}"
+        return Told(refusal, wrong, [project.corridor.nodes[-1].cell])
+    return Told(refusal, f"{project.steps:,} steps: a project has 1 to {MOST_STEPS:,}", [project.steps_cell])
+
+
+def _node_fault(refusal: Refusal, project: Project, places: list[int], trials: Iterable[int] = ()) -> list[int]:
+    """The places within a node of the words that are at fault there; what a link that does not drop repeats goes with its own word."""
+    corridor, node = project.corridor, refusal.node
+    places = [place for place in places if _has_cell(corridor, node, place)]
+    copies = {layout.CAPACITY: layout.DROPPED_CAPACITY, layout.JAM: layout.DROP_DENSITY}
+    if corridor.kind == 1 or layout.DROPPED_CAPACITY in places:
+        copies = {}
+    base = 1 + node * corridor.width
+    groups = [[base + place] + ([base + copies[place]] if place in copies else []) for place in places]
+    return [places[each] for each in _at_fault(refusal, corridor.words, groups, _ask_corridor(project), trials)]
+
+
+def _has_cell(corridor: Corridor, node: int, place: int) -> bool:
+    """Whether a cell says the word, which a blank one of the drop does not."""
+    cell = corridor.cell(node, place)
+    return cell is not None and (place < layout.DROPPED_CAPACITY or cell.text != "")
+
+
+def _link(refusal: Refusal, project: Project) -> Told:
+    """2: a link's words."""
+    corridor, node = project.corridor, refusal.node
+    names = [
+        layout.CAPACITY,
+        layout.FULL_SPEED,
+        layout.WAVE_SPEED,
+        layout.JAM,
+        layout.DROPPED_CAPACITY,
+        layout.DROP_DENSITY,
+    ]
+    fault = _node_fault(refusal, project, names)
+    cells = [corridor.cell(node, place) for place in fault]
+    return Told(refusal, _link_sentence(project, node, fault[-1]), cells[-1:] + cells[:-1])
+
+
+def _link_sentence(project: Project, node: int, place: int) -> str:
+    corridor = project.corridor
+    word, cell = corridor.word(node, place), corridor.cell(node, place)
+    given, label = _given(cell, word), corridor.nodes[node].label
+    if node == 0:
+        return f"{given} at {label}: the first row is the entry, where no link ends; leave it blank"
+    if word == 0:
+        return f"{given} on the link to {label}: a link needs more than that, at least one unit"
+    if place in (layout.FULL_SPEED, layout.WAVE_SPEED):
+        return _too_fast(project, node, word, given)
+    if place == layout.DROPPED_CAPACITY and word <= ONE:
+        return f"the dropped capacity {given} on the link to {label} is above its capacity"
+    if place == layout.DROP_DENSITY and word <= ONE:
+        return f"the drop density {given} on the link to {label} is above its jam density"
+    if place in (layout.JAM, layout.DROP_DENSITY):
+        return f"{given} on the link to {label}: it would hold {tidy(decimal(vehicles(word), 1))} vehicles, and may hold 1,024; cut it in two"
+    return f"{given} on the link to {label}: {tidy(decimal(vehicles(word), 1))} vehicles per step, and it may be 1,024; take shorter steps"
+
+
+def _too_fast(project: Project, node: int, word: int, given: str) -> str:
+    sections = Fraction(word, ONE)
+    shortest = project.clock.step / sections
+    remedy = f"take steps of at most {int(shortest * 100) / 100:g} s"
+    length = project.corridor.nodes[node].length
+    if length is not None:
+        remedy += f" or a link of at least {-int(-length * sections // 1):,} m"
+    one, _ = told_apart(sections, Fraction(1), 2)
+    return f"{given} on the link to {project.corridor.nodes[node].label} is {one} sections per step, more than a section per step: {remedy}"
+
+
+def _ramp(refusal: Refusal, project: Project) -> Told:
+    """3: identifier, ramp capacity and queue limit."""
+    corridor, node = project.corridor, refusal.node
+    used = {each.identifier for each in corridor.nodes}
+    unused = next(number for number in range(1, len(used) + 2) if number not in used)
+    fault = _node_fault(refusal, project, [layout.IDENTIFIER, layout.RAMP_CAPACITY, layout.QUEUE_LIMIT], [unused])
+    return Told(refusal, _ramp_sentence(project, node, fault[0]), [corridor.cell(node, place) for place in fault])
+
+
+def _ramp_sentence(project: Project, node: int, place: int) -> str:
+    corridor = project.corridor
+    word, cell = corridor.word(node, place), corridor.cell(node, place)
+    given, label = _given(cell, word), corridor.nodes[node].label
+    if place == layout.IDENTIFIER:
+        earlier = next(each for each in corridor.nodes if each.identifier == word)
+        return "the identifier is 0" if word == 0 else f"the identifier {word} is that of line {earlier.cell.line} too"
+    if node == corridor.links:
+        return f"{given} at {label}: the last row is the corridor's end, where there is no ramp; leave it blank"
+    if place == layout.RAMP_CAPACITY:
+        return f"the ramp capacity {given} at {label} is {tidy(decimal(vehicles(word), 1))} vehicles per step, and may be 1,024"
+    return f"the queue limit {given} at {label}: at most {NO_LIMIT // UNITS_PER_VEHICLE:,} vehicles, or none"
+
+
+def _start(refusal: Refusal, project: Project) -> Told:
+    """4: what stands on link and ramp at the start."""
+    corridor, node = project.corridor, refusal.node
+    fault = _node_fault(refusal, project, [layout.START_VEHICLES, layout.START_QUEUE])
+    place = fault[0]
+    most_at = layout.JAM if place == layout.START_VEHICLES else layout.QUEUE_LIMIT
+    start, most = told_apart(vehicles(corridor.word(node, place)), vehicles(corridor.word(node, most_at)))
+    label = corridor.nodes[node].label
+    if place == layout.START_VEHICLES:
+        sentence = f"the link to {label} starts with {start} vehicles, and holds {most}"
+    else:
+        sentence = f"the queue of {label} starts with {start} vehicles, and its limit is {most}"
+    return Told(refusal, sentence, [corridor.cell(node, place) for place in fault])
+
+
+def _demand(refusal: Refusal, project: Project) -> Told:
+    """5: arrivals, split and what may leave downstream."""
+    step, node, demands = refusal.row, refusal.node, project.demands
+    base = 1 + 2 * (step * (project.links + 1) + node)
+    places = [base, base + 1]
+    if demands.downstream is not None and node == project.links:
+        places.append(1 + 2 * project.steps * (project.links + 1) + step)
+    fault = places[_at_fault(refusal, demands.words, [[place] for place in places], _ask_demands(project))[0]]
+    word, label, time = int(demands.words[fault]), project.corridor.nodes[node].label, project.clock.at(step)
+    if fault == base:
+        cell, what = demands.cell(step, node, layout.ARRIVALS), f"arrivals at {label}"
+        fixed = "nobody arrives at the last node, which has no ramp"
+    elif fault == base + 1:
+        cell, what = demands.cell(step, node, layout.SPLIT), f"the split at {label}"
+        fixed = (
+            "nobody leaves at the entry" if node == 0 else "what leaves the last link is all gone: it has no off-ramp"
+        )
+    else:
+        cell, what, fixed = demands.downstream_cell(step), f"what may leave {label}", ""
+    given = f"at {time} {what}: {_given(cell, word)}"
+    if word <= ONE:
+        return Told(refusal, f"{given}; {fixed}", [cell])
+    most = "100 %" if fault == base + 1 else "1,024 vehicles per step"
+    return Told(refusal, f"{given} is {word:,} units, and may be 65,536, {most}", [cell])
+
+
+_LISTS: dict[int, Callable[[Refusal, Project], Told]] = {1: _sizes, 2: _link, 3: _ramp, 4: _start, 5: _demand}
+
+
+# ---- refusals of a plan ----
+
+
+def _bounds(refusal: Refusal, project: Project, plan: Plan) -> Told:
+    """6: a rate above the ramp's capacity, or a limit above full speed."""
+    step, node = refusal.row, refusal.node
+    base = 2 * (step * (project.links + 1) + node)
+    ask = lambda words: calls.simulate_words(project.corridor.words, project.demands.words, words)
+    fault = base + _at_fault(refusal, plan.words, [[base + layout.RATE], [base + layout.LIMIT]], ask)[0]
+    label, time, word = project.corridor.nodes[node].label, project.clock.at(step), int(plan.words[fault])
+    if fault == base + layout.RATE:
+        most = project.corridor.word(node, layout.RAMP_CAPACITY)
+        sentence = f"at {time} the rate of {label} is {_per_hour(word, project)}, and its ramp's capacity {_per_hour(most, project)}"
+    elif node == 0:
+        sentence = f"at {time} a limit at {label}: the entry has no link to post it on"
+    else:
+        most = project.corridor.word(node, layout.FULL_SPEED)
+        sentence = f"at {time} the limit on the link to {label} is {_speed(word, node, project)}, and its full speed {_speed(most, node, project)}"
+    return Told(refusal, f"{sentence} ({word:,} units)", [plan.cell(step, node, fault - base)])
+
+
+def _overflow_of_plan(refusal: Refusal, project: Project, plan: Plan) -> Told:
+    """12 of a plan: the first queue that passes its limit, and the rest as the simulated record shows them."""
+    queues = layout.record_states(refusal.work, project.links, project.steps)[:, :, layout.QUEUE]
+    cell = plan.cell(refusal.row, refusal.node, layout.RATE) or project.corridor.cell(refusal.node, layout.QUEUE_LIMIT)
+    first = int(queues[refusal.row + 1, refusal.node])
+    return Told(refusal, _overflow(refusal, project, first), [cell], overflows(queues, project))
+
+
+def _overflow(refusal: Refusal, project: Project, queue: int) -> str:
+    limit = project.corridor.word(refusal.node, layout.QUEUE_LIMIT)
+    reached, most = told_apart(vehicles(queue), vehicles(limit))
+    time, label = project.clock.at(refusal.row + 1), project.corridor.nodes[refusal.node].label
+    return f"at {time} the queue of {label} reaches {reached} vehicles, and its limit is {most}"
+
+
+def overflows(queues: Words, project: Project) -> list[str]:
+    """A sentence for each ramp whose queue passes its limit: when first and last, and the most."""
+    told = []
+    for node, known in enumerate(project.corridor.nodes):
+        limit = project.corridor.word(node, layout.QUEUE_LIMIT)
+        above = np.flatnonzero(queues[:, node] > limit)
+        if len(above):
+            most = int(queues[:, node].argmax())
+            reached, allowed = told_apart(vehicles(int(queues[most, node])), vehicles(limit))
+            first, last, when = (project.clock.at(int(state)) for state in (above[0], above[-1], most))
+            told.append(
+                f"{known.label}: above its limit of {allowed} vehicles in {len(above):,} states from {first} to {last}, most {reached} at {when}"
+            )
+    return told
+
+
+# ---- refusals of a record ----
+
+
+def _ask_record(project: Project) -> Ask:
+    return lambda words: calls.check_words(project.corridor.words, project.demands.words, words)
+
+
+def _faulty_words(
+    refusal: Refusal, project: Project, record: Record, places: Iterable[int], trials: Iterable[int] = ()
+) -> list[int]:
+    """The places within a node's words in state `row` that are at fault."""
+    _, nodes, width = record.states.shape
+    base = (refusal.row * nodes + refusal.node) * width
+    places = [place for place in places if place < width]
+    return [
+        places[each]
+        for each in _at_fault(refusal, record.words, [[base + place] for place in places], _ask_record(project), trials)
+    ]
+
+
+_WHAT = (
+    "the count of vehicles on the link to",
+    "the queue of",
+    "the flow out of the link to",
+    "the ramp flow of",
+    "the exit flow at",
+)
+"""The words of a node in a record, before the node's name."""
+
+
+def _fixed(refusal: Refusal, project: Project, record: Record) -> Told:
+    """7: a start that is not the corridor's, or a word that is fixed at zero."""
+    state, node = refusal.row, refusal.node
+    starts = [project.corridor.word(node, place) for place in (layout.START_VEHICLES, layout.START_QUEUE)]
+    fault = _faulty_words(refusal, project, record, range(5), starts)
+    place = fault[0]
+    word, label, time = (
+        int(record.states[state, node, place]),
+        project.corridor.nodes[node].label,
+        project.clock.at(state),
+    )
+    given = f"at {time} {_WHAT[place]} {label} is {word:,} units"
+    if state == 0 and place in (layout.VEHICLES, layout.QUEUE) and starts[place] != word:
+        sentence = f"{given}, and the corridor starts with {starts[place]:,}"
+    else:
+        sentence = f"{given}, and is fixed at zero there"
+    return Told(refusal, sentence, [record.cell(state, node, place) for place in fault])
+
+
+def _flow_at(refusal: Refusal, project: Project, record: Record, place: int) -> str:
+    """A flow of the place that is refused, in units and vehicles per hour."""
+    word = int(record.states[refusal.row, refusal.node, place])
+    return f"{word:,} units ({_per_hour(word, project)})"
+
+
+def _sending(refusal: Refusal, project: Project, record: Record) -> Told:
+    """8: more than the link can send."""
+    step, node = refusal.row, refusal.node
+    flow, label = _flow_at(refusal, project, record, layout.FLOW), project.corridor.nodes[node].label
+    most = probe.sends(project, record, step, node)
+    on_link = tidy(decimal(vehicles(int(record.vehicles[step, node])), 1))
+    time = project.clock.at(step)
+    sentence = f"at {time} {flow} leave the link to {label}, and with {on_link} vehicles on it {most:,} can"
+    return Told(refusal, sentence, [record.cell(step, node, layout.FLOW)])
+
+
+def _merge(refusal: Refusal, project: Project, record: Record) -> Told:
+    """9: more than the next link can take in."""
+    step, node = refusal.row, refusal.node
+    fault = _faulty_words(refusal, project, record, [layout.FLOW, layout.RAMP_FLOW])
+    flow, ramp = (_flow_at(refusal, project, record, place) for place in (layout.FLOW, layout.RAMP_FLOW))
+    time, label = project.clock.at(step), project.corridor.nodes[node].label
+    if node == project.links:
+        sentence = f"at {time} {flow} leave the last link, more than may leave it downstream"
+    else:
+        most, after = probe.takes_in(project, record, step, node), project.corridor.nodes[node + 1].label
+        sentence = (
+            f"at {time} {flow} of the mainline, less what exits, and {ramp} of the ramp of {label} are more than the "
+            f"{most:,} that the link to {after} can take in"
+        )
+    return Told(refusal, sentence, [record.cell(step, node, place) for place in fault])
+
+
+def _ramp_flow(refusal: Refusal, project: Project, record: Record) -> Told:
+    """10: more than waits, or than the ramp can pass."""
+    flow, label = _flow_at(refusal, project, record, layout.RAMP_FLOW), project.corridor.nodes[refusal.node].label
+    queue = int(record.queues[refusal.row, refusal.node])
+    most = project.corridor.word(refusal.node, layout.RAMP_CAPACITY)
+    time = project.clock.at(refusal.row)
+    sentence = f"at {time} {flow} leave the ramp of {label}, where {queue:,} units wait and {most:,} may pass"
+    return Told(refusal, sentence, [record.cell(refusal.row, refusal.node, layout.RAMP_FLOW)])
+
+
+def _next_state(refusal: Refusal, project: Project, record: Record) -> Told:
+    """11: an exit, or vehicles or queue of the next state, each beside what the library makes of the flows."""
+    step, node = refusal.row, refusal.node
+    label = project.corridor.nodes[node].label
+    wanted = [(step, layout.EXIT_FLOW, probe.exits)] if record.kind == 7 and 0 < node < project.links else []
+    wanted += [(step + 1, layout.VEHICLES, probe.next_vehicles)] if node > 0 else []
+    wanted += [(step + 1, layout.QUEUE, probe.next_queue)] if node < project.links else []
+    sentences, cells = [], []
+    for state, place, right in wanted:
+        found, expected = int(record.states[state, node, place]), right(project, record, step, node)
+        if found != expected:
+            made = f"the flows from {project.clock.at(step)} on make it {expected:,}"
+            sentences.append(f"at {project.clock.at(state)} {_WHAT[place]} {label} is {found:,} units, and {made}")
+            cells.append(record.cell(state, node, place))
+    return Told(refusal, "; ".join(sentences) or refusal.text, cells)
+
+
+def _overflow_of_record(refusal: Refusal, project: Project, record: Record) -> Told:
+    """12 of a record: a queue above its limit."""
+    queue = int(record.states[refusal.row + 1, refusal.node, layout.QUEUE])
+    cell = record.cell(refusal.row + 1, refusal.node, layout.QUEUE)
+    return Told(refusal, _overflow(refusal, project, queue), [cell], overflows(record.queues, project))
+
+
+_RECORD: dict[int, Callable[[Refusal, Project, Record], Told]] = {
+    7: _fixed,
+    8: _sending,
+    9: _merge,
+    10: _ramp_flow,
+    11: _next_state,
+    12: _overflow_of_record,
+}
