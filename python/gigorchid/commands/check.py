@@ -1,0 +1,32 @@
+"""gigorchid check: whether some valid plan has a record."""
+
+from __future__ import annotations
+
+from .base import Outcome, Shown, command as make_command, load_project, load_record, project_argument, record_argument
+from .simulate import queue_data, queue_table, travel_data, travel_lines
+
+
+@make_command("check", short_help="Check a proposed record.")
+@project_argument
+@record_argument
+def command(project: str, record: str) -> Outcome:
+    """Check RECORD, which anybody may propose, against PROJECT: it is accepted exactly where some valid plan has it, in every word."""
+    road = load_project(project)
+    proposed = load_record(road, record)
+    road.check(proposed)
+    lines: list[Shown] = [
+        f"ACCEPTED: some valid plan has the record {record}, in every word; `gigorchid convert` gives one",
+        "",
+        queue_table(road, proposed),
+        "",
+        *travel_lines(proposed),
+    ]
+    data = {
+        "record": record,
+        "kind": proposed.kind,
+        "verdict": "ACCEPTED",
+        "cost_units": proposed.cost,
+        "queues": queue_data(road, proposed),
+        "not_proved": travel_data(proposed),
+    }
+    return Outcome(data, lines)

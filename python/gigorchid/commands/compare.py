@@ -1,0 +1,216 @@
+"""gigorchid compare: whether two plans do the same on the road."""
+
+from __future__ import annotations
+
+from pathlib import Path
+
+import click
+
+from ..compare import DIFFERENT, NOT_COMPARABLE, SAME, Comparison, First, Side, Written, compare, side
+from ..figures import MARK, NOT_PROVED, travel
+from ..layout import LIMIT, RATE
+from ..plans import Plan
+from ..project import FILE, Project
+from ..records import COLUMNS
+from ..tell import vehicles
+from ..units import decimal, told_apart
+from .base import ACCEPTED, Outcome, Shown, command as make_command, load_plan, load_project, table
+from .base import DIFFERENT as STATUS_DIFFERENT, NOT_COMPARABLE as STATUS_NOT_COMPARABLE
+from .plan_view import limit_text, per_hour
+
+STATUS = {SAME: ACCEPTED, DIFFERENT: STATUS_DIFFERENT, NOT_COMPARABLE: STATUS_NOT_COMPARABLE}
+MOST_SHOWN = 20
+
+
+def operand(text: str, project: Project | None) -> tuple[Project, Plan]:
+    """A plan of a project: PROJECT:PLAN, the file of a plan in a project's folder, or a plan of the project that is known already."""
+    folder, colon, name = text.rpartition(":")
+    if colon and folder:
+        found = load_project(folder)
+        return found, load_plan(found, name)
+    if project is not None and (text in project.plans or Path(text).is_file()):
+        return project, load_plan(project, text)
+    if Path(text).is_file():
+        for parent in Path(text).resolve().parents:
+            if (parent / FILE).is_file():
+                found = load_project(str(parent))
+                return found, load_plan(found, text)
+    raise click.UsageError(
+        f"{text}: expected PROJECT:PLAN, a plan of the project before it, or the file of a plan in a project's folder"
+    )
+
+
+@make_command("compare", short_help="Whether two plans do the same on the road.")
+@click.argument("first", metavar="A")
+@click.argument("second", metavar="B")
+def command(first: str, second: str) -> Outcome:
+    """Compare the plans A and B by what they do on the road.
+
+    A and B are each PROJECT:PLAN, or the file of a plan in a project's folder; B may also be the name of a plan in A's project.
+
+    Where both plans are valid their normal forms decide, which are equal exactly when their records are, in every word. The equivalence
+    covers valid plans: where one lets a queue pass its limit, the records are compared, and this is said. Where the corridors or what
+    arrives differ, as when a link was inserted, the plans are not comparable, and what can be said is said by identifier.
+    """
+    project, plan = operand(first, None)
+    other, plan_b = operand(second, project)
+    found = compare(side(project, plan), side(other, plan_b))
+    lines = _by_identifier(found) if found.verdict == NOT_COMPARABLE else _on_one_road(found)
+    return Outcome(
+        _data(found, first, second),
+        [_verdict(found), f"A: {_named(found.a, first)}", f"B: {_named(found.b, second)}", *lines],
+        STATUS[found.verdict],
+    )
+
+
+def _verdict(found: Comparison) -> str:
+    if found.verdict == NOT_COMPARABLE:
+        return f"{NOT_COMPARABLE}: {'; '.join(found.reasons)}"
+    if found.by == "record":
+        return f"{found.verdict} record; not every queue stays within its limit, so this is no verdict on valid plans"
+    agree = "agree in every word" if found.verdict == SAME else "differ, and so do their records"
+    return f"{found.verdict} on the road: both plans are valid, and their normal forms {agree}"
+
+
+def _named(each: Side, given: str) -> str:
+    valid = "valid" if each.refusal is None else f"not valid: {each.refusal}"
+    title = f", {each.project.title}" if each.project.title else ""
+    return f"{given}{title}; {valid}"
+
+
+def _on_one_road(found: Comparison) -> list[Shown]:
+    lines: list[Shown] = []
+    if found.first_setting is not None:
+        lines.append(f"first in the normal forms, {_setting(found, found.first_setting)}")
+    if found.first_word is not None:
+        states, nodes, _ = found.a.record.states.shape
+        lines.append(f"first in the records, {_word(found, found.first_word)}")
+        lines.append(f"{found.places_different:,} of {states * nodes:,} states of nodes differ")
+        hours = [decimal(travel(each.record).hours, 1) for each in (found.a, found.b)]
+        lines.append(f"vehicle hours {MARK}: {hours[0]} in A, {hours[1]} in B")
+    if found.only_written:
+        rows = [_written_row(found, run) for run in found.only_written[:MOST_SHOWN]]
+        lines += ["", "only written differently, with the same vehicles, queue and flows there:"]
+        lines.append(table(["node", "from", "until", "A", "B"], rows, words=5))
+        if len(found.only_written) > MOST_SHOWN:
+            lines.append(f"and {len(found.only_written) - MOST_SHOWN:,} more; --json lists them all")
+    elif found.verdict == SAME:
+        lines.append("written alike: the plans agree in every word too")
+    return lines + ([NOT_PROVED] if found.first_word is not None else [])
+
+
+def _label(found: Comparison, node: int) -> str:
+    return found.a.project.corridor.nodes[node].label
+
+
+def _setting(found: Comparison, first: First) -> str:
+    plan, time = found.a.plan, found.a.project.clock.at(first.state)
+    if first.place == RATE:
+        return f"at {time} at {_label(found, first.node)}: rate {per_hour(first.a, plan)} veh/h in A and {per_hour(first.b, plan)} in B"
+    limits = [limit_text(word, first.node, plan) for word in (first.a, first.b)]
+    return f"at {time} on the link to {_label(found, first.node)}: limit {limits[0]} in A and {limits[1]} in B"
+
+
+def _word(found: Comparison, first: First) -> str:
+    what = COLUMNS[first.place].removesuffix("_units").replace("_", " ")
+    one, other = told_apart(vehicles(first.a), vehicles(first.b))
+    time = found.a.project.clock.at(first.state)
+    return f"at {time} at {_label(found, first.node)}: {what} {one} vehicles in A and {other} in B ({first.a:,} and {first.b:,} units)"
+
+
+def _settings(words: tuple[int, int], node: int, plan: Plan) -> str:
+    parts = [f"{per_hour(words[RATE], plan)} veh/h"] if node < plan.corridor.links else []
+    return ", ".join(parts + ([limit_text(words[LIMIT], node, plan)] if node else []))
+
+
+def _written_row(found: Comparison, run: Written) -> list[str]:
+    clock = found.a.project.clock
+    both = [_settings(words, run.node, found.a.plan) for words in (run.a, run.b)]
+    return [_label(found, run.node), clock.at(run.start), clock.at(run.end), *both]
+
+
+def _between(each: Side, place: int) -> str:
+    nodes = each.project.corridor.nodes
+    ends = [nodes[at].label for at in (place - 1, place + 1) if 0 <= at < len(nodes)]
+    where = f"between {ends[0]} and {ends[1]}" if len(ends) == 2 else f"next to {ends[0]}"
+    return f"{nodes[place].label}, {where}"
+
+
+def _by_identifier(found: Comparison) -> list[Shown]:
+    lines: list[Shown] = [f"only in A: {_between(found.a, place)}" for place in found.only_in_a]
+    lines += [f"only in B: {_between(found.b, place)}" for place in found.only_in_b]
+    names = list(found.shared[0].firsts) if found.shared else []
+    rows = []
+    for each in found.shared:
+        times = [
+            "same" if first is None else f"from {found.a.project.clock.at(first)}" for first in each.firsts.values()
+        ]
+        columns = ", ".join(name.replace("_", " ") for name in each.columns) or "same"
+        rows.append([found.a.project.corridor.nodes[each.a].label, columns, *times])
+    if not rows:
+        return lines + ["no identifier is in both"]
+    said = (
+        "of the nodes in both, by identifier:"
+        if names
+        else "of the nodes in both, by identifier (not in time, since the steps are not the same):"
+    )
+    return lines + ["", said, table(["node", "corridor", *names], rows, words=2 + len(names))]
+
+
+def _first_data(found: Comparison, first: First | None, names: tuple[str, ...]) -> dict[str, object] | None:
+    if first is None:
+        return None
+    node = found.a.project.corridor.nodes[first.node]
+    time = found.a.project.clock.at(first.state)
+    return {
+        "time": time,
+        "state": first.state,
+        "id": node.identifier,
+        "word": names[first.place],
+        "a": first.a,
+        "b": first.b,
+    }
+
+
+def _data(found: Comparison, first: str, second: str) -> dict[str, object]:
+    clock, nodes = found.a.project.clock, found.a.project.corridor.nodes
+    data: dict[str, object] = {
+        "a": first,
+        "b": second,
+        "verdict": found.verdict,
+        "by": found.by,
+        "reasons": found.reasons,
+        "valid": {"a": found.a.refusal is None, "b": found.b.refusal is None},
+        "refusals": {
+            name: each.refusal.as_json() if each.refusal else None for name, each in (("a", found.a), ("b", found.b))
+        },
+    }
+    if found.verdict == NOT_COMPARABLE:
+        data["only_in_a"] = [nodes[place].identifier for place in found.only_in_a]
+        data["only_in_b"] = [found.b.project.corridor.nodes[place].identifier for place in found.only_in_b]
+        data["shared"] = [
+            {
+                "id": each.identifier,
+                "corridor": each.columns,
+                "first_difference": {name: None if at is None else clock.at(at) for name, at in each.firsts.items()},
+            }
+            for each in found.shared
+        ]
+        return data
+    data["first_in_normal_forms"] = _first_data(found, found.first_setting, ("rate_units", "limit_units"))
+    data["first_in_records"] = _first_data(found, found.first_word, COLUMNS)
+    data["places_different"] = found.places_different
+    data["only_written_differently"] = [
+        {
+            "id": nodes[run.node].identifier,
+            "from": clock.at(run.start),
+            "until": clock.at(run.end),
+            "a": run.a,
+            "b": run.b,
+        }
+        for run in found.only_written
+    ]
+    data["not_proved"] = {
+        f"vehicle_hours_{name}": travel(each.record).hours for name, each in (("a", found.a), ("b", found.b))
+    }
+    return data

@@ -1,0 +1,142 @@
+"""gigorchid lint: what a project gave, in words and back, and what looks wrong."""
+
+from __future__ import annotations
+
+from collections.abc import Iterable
+from fractions import Fraction
+
+from rich.table import Table
+
+from .. import lint
+from ..plans import Plan
+from ..project import Project
+from ..tell import Told
+from ..units import SYMBOLS, decimal, factor, tidy
+from .base import (
+    ACCEPTED,
+    REFUSED,
+    Outcome,
+    Shown,
+    command as make_command,
+    load_project,
+    project_argument,
+    refused,
+    table,
+)
+
+OVER_A_LIMIT = 12
+
+
+def _lines_text(lines: list[int]) -> str:
+    """Line numbers, runs of them joined."""
+    parts: list[list[int]] = []
+    for line in lines:
+        if parts and parts[-1][-1] + 1 == line:
+            parts[-1].append(line)
+        else:
+            parts.append([line])
+    return ", ".join(str(part[0]) if len(part) == 1 else f"{part[0]}-{part[-1]}" for part in parts)
+
+
+def _change(each: lint.Rounded) -> str:
+    if not each.change:
+        return "exact"
+    share = abs(each.change) * 100
+    sign = "-" if each.change < 0 else "+"
+    return f"{sign}{decimal(share, 2)} %" if share >= Fraction(1, 100) else f"{sign}under 0.01 %"
+
+
+def _figures(figures: Iterable[lint.Rounded]) -> Table:
+    rows = [
+        [
+            f"{each.file}:{_lines_text(each.lines)}",
+            each.column,
+            each.text,
+            f"{each.word:,}",
+            f"{tidy(decimal(each.back, 2))} {SYMBOLS[each.ending]}",
+            _change(each),
+        ]
+        for each in figures
+    ]
+    return table(["lines", "column", "given", "units", "which is", "rounding"], rows, words=2)
+
+
+def _verdicts(project: Project, plans: list[Plan]) -> tuple[list[str], dict[str, object], bool]:
+    """What the library says of each plan: a line and data, and whether one is refused by 1 to 6."""
+    lines: list[str] = []
+    data: dict[str, object] = {}
+    bad = False
+    for plan in plans:
+        try:
+            project.normal(plan)
+        except Told as told:
+            bad = bad or told.number != OVER_A_LIMIT
+            lines.append(f"plan {plan.name}: not valid: {told}")
+            data[plan.name] = told.as_json()
+        else:
+            lines.append(f"plan {plan.name}: valid")
+            data[plan.name] = None
+    return lines, data, bad
+
+
+def _figure_data(figures: Iterable[lint.Rounded]) -> list[dict[str, object]]:
+    return [
+        {
+            "file": each.file,
+            "lines": each.lines,
+            "column": each.column,
+            "given": each.text,
+            "word": each.word,
+            "is": each.back,
+            "rounding": each.change,
+        }
+        for each in figures
+    ]
+
+
+@make_command("lint", short_help="What a project gave, in units and back, with warnings.")
+@project_argument
+def command(project: str) -> Outcome:
+    """Show every figure of PROJECT with the word that it becomes and what that word is in the figure's unit; then warnings.
+
+    The library is asked about corridor and demands, and about each plan. Warnings do not change the exit status; a refusal by 1 to 6 does.
+    """
+    road = load_project(project)
+    try:
+        road.simulate(road.full_plan())
+    except Told as told:
+        return refused(told)
+    plans = [road.plan(name) for name in road.plans]
+    verdicts, told_plans, bad = _verdicts(road, plans)
+    warned = lint.warnings(road, plans)
+    figures = lint.corridor_figures(road) + lint.split_figures(road)
+    figures += [each for plan in plans for each in lint.plan_figures(plan)]
+    arrivals = lint.arrived(road)
+    lines: list[Shown] = [
+        f"{road.title}: {road.links} links, {road.steps:,} steps of {float(road.clock.step):g} s, {road.clock.at(0)} to {road.clock.at(road.steps)}",
+        f"corridor of kind {road.corridor.kind}, demands of kind {road.demands.kind}; one unit of flow is {tidy(decimal(1 / factor('vph', road.clock.step), 3))} veh/h",
+        "",
+        _figures(figures),
+        "",
+        table(
+            ["arrivals", "vehicles given", "in units"],
+            [[each.column, decimal(each.given, 3), decimal(each.words, 3)] for each in arrivals],
+        ),
+        "",
+        *verdicts,
+        *[f"warning: {each}" for each in warned],
+        f"{len(warned)} warnings",
+    ]
+    data = {
+        "links": road.links,
+        "steps": road.steps,
+        "corridor_kind": road.corridor.kind,
+        "demands_kind": road.demands.kind,
+        "figures": _figure_data(figures),
+        "arrivals": [
+            {"column": each.column, "vehicles_given": each.given, "vehicles_in_words": each.words} for each in arrivals
+        ],
+        "plans": told_plans,
+        "warnings": warned,
+    }
+    return Outcome(data, lines, REFUSED if bad else ACCEPTED)
