@@ -14,6 +14,9 @@ python3-click module click
 python3-rich module rich
 python3-pytest module pytest
 python3-hypothesis module hypothesis
+black module black
+mypy module mypy
+pyflakes3 module pyflakes
 '
 
 # is_there KIND NAME: whether the command or the module is there

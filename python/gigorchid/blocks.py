@@ -97,18 +97,23 @@ def unpacked(files: list[BlockFile], title: str, start: Fraction, step: Fraction
     clock = Clock(start, step, steps)
     nodes = _nodes(words, like)
     corridor = Corridor(nodes, words, {}, [])
-    texts = {"corridor.csv": write_corridor(words, nodes)}
     series = write_demands(demands, nodes, clock)
-    texts |= {f"{name}.csv": text for name, text in series.items()}
-    plans = {_plan_name(file): file for file in by_place["plan"]}
-    for name, file in plans.items():
-        plan = Plan(name, words_of(file, links, steps), corridor, clock, PlanSource())
-        texts[f"plan-{name}.csv"] = write_plan(plan, [f"Unpacked from {Path(file.name).name}."])
+    texts = {"corridor.csv": write_corridor(words, nodes), **{f"{name}.csv": text for name, text in series.items()}}
+    for file in by_place["plan"]:
+        plan = Plan(_plan_name(file), words_of(file, links, steps), corridor, clock, PlanSource())
+        _add(texts, f"plan-{plan.name}.csv", write_plan(plan, [f"Unpacked from {Path(file.name).name}."]), file)
     for file in by_place["record"]:
         record = record_of_blocks(words_of(file, links, steps), corridor, clock, file.name)
-        texts[f"{Path(file.name).stem}.csv"] = write_record(record)
-    texts["project.toml"] = _toml(title, clock, ["corridor", *series], list(plans))
+        _add(texts, f"{Path(file.name).stem}.csv", write_record(record), file)
+    texts["project.toml"] = _toml(title, clock, ["corridor", *series], [_plan_name(file) for file in by_place["plan"]])
     return Unpacked(texts, links, steps)
+
+
+def _add(texts: dict[str, str], name: str, text: str, file: BlockFile) -> None:
+    """Adds a table, which takes the place of no other."""
+    if name in texts:
+        raise Fault(Cell(file.name), f"would become {name}, which is another table here: expected another name")
+    texts[name] = text
 
 
 def _nodes(words: Words, like: Project | None) -> list[Node]:

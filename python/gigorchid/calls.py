@@ -15,14 +15,13 @@ import numpy.typing as npt
 from . import sizes
 from .library import function
 from .refusals import Refusal, taken_apart
+from .sizes import GREATEST_WORD
 
 Words = npt.NDArray[np.uint32]
 File = npt.NDArray[np.uint8]
 FileLike = bytes | bytearray | memoryview | File
 NodesLike = npt.NDArray[np.void] | Iterable[Iterable[int]]
 Given = npt.NDArray[Any] | int
-
-GREATEST_WORD = 2**32 - 1
 
 # struct gigorchid_node: the words of a node in a corridor's list of kind 10, in their order.
 NODE_FIELDS = (

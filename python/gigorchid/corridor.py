@@ -11,7 +11,8 @@ from . import layout
 from .layout import Words
 from .sheets import Cell, Fault, Row, Sheet, expected, figure, number, whole_number, written
 from .times import decimal_text
-from .units import COUNT, DENSITY, FLOW, GREATEST_WORD, LENGTH, PER_LINK, SPEED, factor, fits_word, nearest
+from .sizes import GREATEST_WORD
+from .units import COUNT, DENSITY, FLOW, LENGTH, PER_LINK, SPEED, factor, fits_word, nearest
 
 LINK = {
     "capacity": (FLOW, layout.CAPACITY),
@@ -33,6 +34,14 @@ DROP = {
 }
 QUANTITIES = LINK | RAMP | START | DROP
 """Endings, and the place among the words of a node, of every quantity."""
+
+BESIDE = {
+    "ramp_capacity": "queue_limit",
+    "queue_limit": "ramp_capacity",
+    "dropped_capacity": "drop_density",
+    "drop_density": "dropped_capacity",
+}
+"""Columns of which a row has both or neither."""
 
 NO_LIMIT = 134_217_728
 """The queue limit that stands for none: no queue reaches it within the limits of the model."""
@@ -181,9 +190,10 @@ class _Reader:
         """Faults a blank cell where a figure is needed."""
         if stem in LINK and not first:
             raise expected(cell, "a number, since a link ends at this node")
-        for one, other in (tuple(RAMP), tuple(RAMP)[::-1], tuple(DROP), tuple(DROP)[::-1]):
-            beside = self.cell(row, other)
-            if stem == one and beside.text.strip("0."):
+        if stem in BESIDE:
+            beside = self.cell(row, BESIDE[stem])
+            strict = stem in DROP and not first
+            if beside.text if strict else beside.text.strip("0."):
                 none = " or none" if stem == "queue_limit" else ""
                 raise expected(cell, f"a number{none}, since {beside.column} is {beside.text}")
 

@@ -5,7 +5,7 @@ from __future__ import annotations
 from collections.abc import Callable, Sequence
 from fractions import Fraction
 from itertools import accumulate
-from math import lcm
+from math import ceil, lcm
 
 import numpy as np
 
@@ -14,7 +14,8 @@ from .layout import Places, Words
 from .corridor import Corridor, Node
 from .sheets import Cell, Fault, Sheet, expected, figure, state_of, time_of, written
 from .times import Clock
-from .units import FLOW, GREATEST_WORD, ONE, SPLIT, factor, fits_word, nearest
+from .sizes import GREATEST_WORD
+from .units import FLOW, ONE, SPLIT, factor, fits_word, nearest
 
 FREE = "free"
 
@@ -59,8 +60,8 @@ class Series:
         for row in self.sheet.rows:
             cell = self.sheet.cell(row, place)
             value = named[cell.text] if cell.text in named else figure(cell, ending, GREATEST_WORD) * scale
-            if not fits_word(nearest(value)):
-                raise Fault(cell, f"{cell.text} is {nearest(value):,} units a step: expected at most {GREATEST_WORD:,}")
+            if not fits_word(ceil(value)):
+                raise Fault(cell, f"{cell.text} is {ceil(value):,} units a step: expected at most {GREATEST_WORD:,}")
             exact.append(value)
         return exact
 
@@ -146,12 +147,11 @@ def read_demands(
 def _read_downstream(sheet: Sheet, corridor: Corridor, clock: Clock) -> Series:
     """The series of the last node alone."""
     series = Series(sheet, corridor, clock, FLOW, free=True)
-    if list(series.columns) != [corridor.links]:
+    others = [place for node, (place, _) in series.columns.items() if node != corridor.links]
+    if others or not series.columns:
+        cell = sheet.heading(others[0]) if others else Cell(sheet.name, sheet.header_line)
         last = corridor.nodes[-1].identifier
-        raise Fault(
-            Cell(sheet.name, sheet.header_line),
-            f"expected one column, that of the last node, {last}_vph or {last}_units",
-        )
+        raise Fault(cell, f"expected one column, that of the last node, {last}_vph or {last}_units")
     return series
 
 

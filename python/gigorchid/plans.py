@@ -14,7 +14,8 @@ from .corridor import Corridor
 from .progress import watched
 from .sheets import Cell, Fault, Row, Sheet, expected, figure, state_of, time_of, whole_number, written
 from .times import Clock
-from .units import FLOW, GREATEST_WORD, PER_LINK, SPEED, factor, fits_word, nearest, shown
+from .sizes import GREATEST_WORD
+from .units import FLOW, PER_LINK, SPEED, factor, fits_word, nearest, shown
 
 if TYPE_CHECKING:
     import pandas

@@ -25,6 +25,8 @@ FILE = "project.toml"
 KEYS = ("title", "start", "step_s", "steps", "files", "plans")
 FILES = ("corridor", "arrivals", "splits", "downstream")
 NEEDED = ("corridor", "arrivals")
+ENDINGS = (".csv", ".blocks")
+"""How the files of plans and records end: tables and block files."""
 MOST_STEPS_READ = 100_000
 """More steps than this are a fault of the file; from 1,441 on the library refuses them."""
 
@@ -224,21 +226,27 @@ class _Settings:
 
     def step(self) -> Fraction:
         """The length of a step in seconds."""
-        value = self._values.get("step_s")
-        if (
-            isinstance(value, bool)
-            or not isinstance(value, (int, Decimal))
-            or not value > 0
-            or not Decimal(value).is_finite()
-        ):
-            raise expected(self.cell("step_s"), "a number of seconds above 0")
+        what = "a number of seconds above 0"
+        value = self._number("step_s", what)
+        if not Decimal(value).is_finite() or value <= 0:
+            raise expected(self.cell("step_s"), what)
         return Fraction(value)
 
     def steps(self) -> int:
         """How many steps there are."""
-        value = self._values.get("steps")
-        if isinstance(value, bool) or not isinstance(value, int) or not 0 <= value <= MOST_STEPS_READ:
-            raise expected(self.cell("steps"), "a whole number, of 1 to 1,440 to be accepted")
+        what = "a whole number, of 1 to 1,440 to be accepted"
+        value = self._number("steps", what)
+        if not isinstance(value, int) or not 0 <= value <= MOST_STEPS_READ:
+            raise expected(self.cell("steps"), what)
+        return value
+
+    def _number(self, key: str, what: str) -> int | Decimal:
+        """The number that a key has."""
+        value = self._values.get(key)
+        if isinstance(value, str):
+            raise expected(self.cell(key), f"{what}, without quotation marks")
+        if isinstance(value, bool) or not isinstance(value, (int, Decimal)):
+            raise expected(self.cell(key), what)
         return value
 
     def files(self) -> dict[str, str]:
@@ -253,7 +261,11 @@ class _Settings:
 
     def plans(self) -> dict[str, str]:
         """The plans that the project names."""
-        return self._names(self._values.get("plans", {}), "plans")
+        plans = self._names(self._values.get("plans", {}), "plans")
+        for key, name in plans.items():
+            if Path(name).suffix not in ENDINGS:
+                raise expected(self.cell(key, "plans"), f"the name of a file that ends in {' or '.join(ENDINGS)}")
+        return plans
 
     def _names(self, values: Mapping[str, object], table: str) -> dict[str, str]:
         for key, value in values.items():

@@ -15,7 +15,7 @@ from .plans import block_cell, node_frame
 from .progress import watched
 from .sheets import Cell, Fault, Row, Sheet, expected, whole_number, written
 from .times import Clock
-from .units import GREATEST_WORD
+from .sizes import GREATEST_WORD
 
 if TYPE_CHECKING:
     import pandas

@@ -13,8 +13,8 @@ from pathlib import Path
 from .times import EXPECTED_TIME, Clock, parse_time
 from .units import SYMBOLS
 
-_NUMBER = re.compile(r"\d+(\.\d+)?|\.\d+")
-_WHOLE = re.compile(r"\d+")
+_NUMBER = re.compile(r"[0-9]+(\.[0-9]+)?")
+_WHOLE = re.compile(r"[0-9]+")
 
 
 @dataclass(frozen=True)
@@ -194,7 +194,8 @@ class _WithoutComments:
 def number(cell: Cell, symbol: str = "") -> Fraction:
     """The figure in a cell."""
     if _NUMBER.fullmatch(cell.text) is None:
-        raise expected(cell, "a number of 0 or more" + (f" in {symbol}" if symbol else ""))
+        in_unit = f" in {symbol}" if symbol else ""
+        raise expected(cell, f"a number of 0 or more{in_unit}, such as 7900 or 7900.5, without sign or separators")
     return Fraction(cell.text)
 
 

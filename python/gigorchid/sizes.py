@@ -5,6 +5,7 @@ Where N or K is out of range a list has no length: None.
 
 from collections.abc import Callable
 
+GREATEST_WORD = 2**32 - 1
 MOST_LINKS = 64
 MOST_STEPS = 1440
 SEARCH_WORDS = 3

@@ -7,7 +7,8 @@ from __future__ import annotations
 
 from collections.abc import Callable, Iterable
 from fractions import Fraction
-from typing import TYPE_CHECKING
+from math import ceil, floor
+from typing import TYPE_CHECKING, NamedTuple
 
 import numpy as np
 
@@ -81,7 +82,7 @@ def of_record(refusal: Refusal, project: Project, record: Record) -> Told:
 def of_file(refusal: Refusal, file: str, place: str, content: bytes, links: int, steps: int) -> Told:
     """A refusal of a reader of block files."""
     block = f"block {refusal.row}, bytes {refusal.row * BLOCK_BYTES:,} to {(refusal.row + 1) * BLOCK_BYTES - 1:,},"
-    kinds = " or ".join(map(str, KINDS[place]))
+    kinds = str(file_kind(place, content)) if refusal.row else " or ".join(map(str, KINDS[place]))
     found = int.from_bytes(content[refusal.row * BLOCK_BYTES :][:4], "little")
     sentences = {
         1: f"{links:,} links and {steps:,} steps: a file has 1 to {MOST_LINKS} links and 1 to {MOST_STEPS:,} steps, and its own",
@@ -108,13 +109,6 @@ def _per_hour(word: int, project: Project) -> str:
     return f"{tidy(decimal(word / factor('vph', project.clock.step), 1))} veh/h"
 
 
-def _speed(word: int, node: int, project: Project) -> str:
-    length = project.corridor.nodes[node].length
-    if length is None:
-        return f"{word:,} units"
-    return f"{tidy(decimal(word / factor('kmh', project.clock.step, length), 1))} km/h"
-
-
 def _given(cell: Cell | None, word: int) -> str:
     """What was written in a cell, with its unit."""
     if cell is None or not cell.text:
@@ -135,29 +129,27 @@ def _refuses(ask: Ask, words: Words, refusal: Refusal) -> bool:
     return False
 
 
-def _at_fault(
-    refusal: Refusal, words: Words, groups: list[list[int]], ask: Ask, trials: Iterable[int] = ()
-) -> list[int]:
-    """Which groups of places of a list are at fault, where the places of a group have one cell between them.
+class Suspect(NamedTuple):
+    """Places of a list that one cell says, and a word that is never at fault there."""
 
-    A change of one group alone to some trial value ends the refusal; or, where several are at fault, the refusal stays while all the
-    others are changed.
-    """
-    values = [0, 1, ONE, *trials]
+    places: list[int]
+    sound: int
 
-    def stays(changed: list[list[int]]) -> bool:
-        return all(_refuses(ask, _changed(words, sum(changed, []), value), refusal) for value in values)
 
-    numbered = range(len(groups))
-    alone = [each for each in numbered if not stays([groups[each]])]
-    several = [each for each in numbered if stays(groups[:each] + groups[each + 1 :])]
+def _at_fault(refusal: Refusal, words: Words, suspects: list[Suspect], ask: Ask) -> list[int]:
+    """Which of the suspects are at fault: a sound word in the place of one alone ends the refusal; or, where several are
+    at fault, the refusal stays while all the others have sound words."""
+
+    def stays(changed: list[Suspect]) -> bool:
+        other = words.copy()
+        for suspect in changed:
+            other[suspect.places] = suspect.sound
+        return _refuses(ask, other, refusal)
+
+    numbered = range(len(suspects))
+    alone = [each for each in numbered if not stays([suspects[each]])]
+    several = [each for each in numbered if stays(suspects[:each] + suspects[each + 1 :])]
     return alone or several or list(numbered)
-
-
-def _changed(words: Words, places: list[int], value: int) -> Words:
-    other = words.copy()
-    other[places] = value
-    return other
 
 
 # ---- refusals 1 to 5: corridor and demands ----
@@ -190,16 +182,21 @@ def _sizes(refusal: Refusal, project: Project) -> Told:
     return Told(refusal, f"{project.steps:,} steps: a project has 1 to {MOST_STEPS:,}", [project.steps_cell])
 
 
-def _node_fault(refusal: Refusal, project: Project, places: list[int], trials: Iterable[int] = ()) -> list[int]:
-    """The places within a node of the words that are at fault there; what a link that does not drop repeats goes with its own word."""
+def _node_fault(refusal: Refusal, project: Project, sound: dict[int, int]) -> list[int]:
+    """The places within a node of the words that are at fault there, told a sound word for each.
+
+    What a link that does not drop repeats, of its capacity and its jam, goes with the word itself.
+    """
     corridor, node = project.corridor, refusal.node
-    places = [place for place in places if _has_cell(corridor, node, place)]
+    places = [place for place in sound if _has_cell(corridor, node, place)]
     copies = {layout.CAPACITY: layout.DROPPED_CAPACITY, layout.JAM: layout.DROP_DENSITY}
     if corridor.kind == 1 or layout.DROPPED_CAPACITY in places:
         copies = {}
     base = 1 + node * corridor.width
-    groups = [[base + place] + ([base + copies[place]] if place in copies else []) for place in places]
-    return [places[each] for each in _at_fault(refusal, corridor.words, groups, _ask_corridor(project), trials)]
+    suspects = [
+        Suspect([base + place] + ([base + copies[place]] if place in copies else []), sound[place]) for place in places
+    ]
+    return [places[each] for each in _at_fault(refusal, corridor.words, suspects, _ask_corridor(project))]
 
 
 def _has_cell(corridor: Corridor, node: int, place: int) -> bool:
@@ -211,15 +208,9 @@ def _has_cell(corridor: Corridor, node: int, place: int) -> bool:
 def _link(refusal: Refusal, project: Project) -> Told:
     """2: a link's words."""
     corridor, node = project.corridor, refusal.node
-    names = [
-        layout.CAPACITY,
-        layout.FULL_SPEED,
-        layout.WAVE_SPEED,
-        layout.JAM,
-        layout.DROPPED_CAPACITY,
-        layout.DROP_DENSITY,
-    ]
-    fault = _node_fault(refusal, project, names)
+    sound = {layout.CAPACITY: ONE, layout.FULL_SPEED: ONE, layout.WAVE_SPEED: ONE, layout.JAM: ONE}
+    sound |= {layout.DROPPED_CAPACITY: 0, layout.DROP_DENSITY: 0}
+    fault = _node_fault(refusal, project, sound if node else dict.fromkeys(sound, 0))
     cells = [corridor.cell(node, place) for place in fault]
     return Told(refusal, _link_sentence(project, node, fault[-1]), cells[-1:] + cells[:-1])
 
@@ -233,7 +224,7 @@ def _link_sentence(project: Project, node: int, place: int) -> str:
     if word == 0:
         return f"{given} on the link to {label}: a link needs more than that, at least one unit"
     if place in (layout.FULL_SPEED, layout.WAVE_SPEED):
-        return _too_fast(project, node, word, given)
+        return _too_fast(project, node, place, given)
     if place == layout.DROPPED_CAPACITY and word <= ONE:
         return f"the dropped capacity {given} on the link to {label} is above its capacity"
     if place == layout.DROP_DENSITY and word <= ONE:
@@ -243,15 +234,18 @@ def _link_sentence(project: Project, node: int, place: int) -> str:
     return f"{given} on the link to {label}: {tidy(decimal(vehicles(word), 1))} vehicles per step, and it may be 1,024; take shorter steps"
 
 
-def _too_fast(project: Project, node: int, word: int, given: str) -> str:
-    sections = Fraction(word, ONE)
-    shortest = project.clock.step / sections
-    remedy = f"take steps of at most {int(shortest * 100) / 100:g} s"
-    length = project.corridor.nodes[node].length
-    if length is not None:
-        remedy += f" or a link of at least {-int(-length * sections // 1):,} m"
-    one, _ = told_apart(sections, Fraction(1), 2)
-    return f"{given} on the link to {project.corridor.nodes[node].label} is {one} sections per step, more than a section per step: {remedy}"
+def _too_fast(project: Project, node: int, place: int, given: str) -> str:
+    """A speed above a section per step, from the figure that was given, and what would make it fit."""
+    known, step = project.corridor.nodes[node], project.clock.step
+    cell = project.corridor.cell(node, place)
+    ending = cell.column.rpartition("_")[2] if cell else "units"
+    figure = Fraction(cell.text) if cell else Fraction(project.corridor.word(node, place))
+    sections = figure * factor(ending, step, known.length) / ONE
+    remedy = f"take steps of at most {floor(step / sections * 100) / 100:g} s"
+    if known.length is not None:
+        remedy += f" or a link of at least {ceil(known.length * sections):,} m"
+    times, _ = told_apart(sections, Fraction(1), 2)
+    return f"{given} on the link to {known.label} is {times} sections per step, more than a section per step: {remedy}"
 
 
 def _ramp(refusal: Refusal, project: Project) -> Told:
@@ -259,7 +253,7 @@ def _ramp(refusal: Refusal, project: Project) -> Told:
     corridor, node = project.corridor, refusal.node
     used = {each.identifier for each in corridor.nodes}
     unused = next(number for number in range(1, len(used) + 2) if number not in used)
-    fault = _node_fault(refusal, project, [layout.IDENTIFIER, layout.RAMP_CAPACITY, layout.QUEUE_LIMIT], [unused])
+    fault = _node_fault(refusal, project, {layout.IDENTIFIER: unused, layout.RAMP_CAPACITY: 0, layout.QUEUE_LIMIT: 0})
     return Told(refusal, _ramp_sentence(project, node, fault[0]), [corridor.cell(node, place) for place in fault])
 
 
@@ -280,7 +274,7 @@ def _ramp_sentence(project: Project, node: int, place: int) -> str:
 def _start(refusal: Refusal, project: Project) -> Told:
     """4: what stands on link and ramp at the start."""
     corridor, node = project.corridor, refusal.node
-    fault = _node_fault(refusal, project, [layout.START_VEHICLES, layout.START_QUEUE])
+    fault = _node_fault(refusal, project, {layout.START_VEHICLES: 0, layout.START_QUEUE: 0})
     place = fault[0]
     most_at = layout.JAM if place == layout.START_VEHICLES else layout.QUEUE_LIMIT
     start, most = told_apart(vehicles(corridor.word(node, place)), vehicles(corridor.word(node, most_at)))
@@ -299,7 +293,8 @@ def _demand(refusal: Refusal, project: Project) -> Told:
     places = [base, base + 1]
     if demands.downstream is not None and node == project.links:
         places.append(1 + 2 * project.steps * (project.links + 1) + step)
-    fault = places[_at_fault(refusal, demands.words, [[place] for place in places], _ask_demands(project))[0]]
+    suspects = [Suspect([place], 0) for place in places]
+    fault = places[_at_fault(refusal, demands.words, suspects, _ask_demands(project))[0]]
     word, label, time = int(demands.words[fault]), project.corridor.nodes[node].label, project.clock.at(step)
     if fault == base:
         cell, what = demands.cell(step, node, layout.ARRIVALS), f"arrivals at {label}"
@@ -328,18 +323,35 @@ def _bounds(refusal: Refusal, project: Project, plan: Plan) -> Told:
     """6: a rate above the ramp's capacity, or a limit above full speed."""
     step, node = refusal.row, refusal.node
     base = 2 * (step * (project.links + 1) + node)
-    ask = lambda words: calls.simulate_words(project.corridor.words, project.demands.words, words)
-    fault = base + _at_fault(refusal, plan.words, [[base + layout.RATE], [base + layout.LIMIT]], ask)[0]
-    label, time, word = project.corridor.nodes[node].label, project.clock.at(step), int(plan.words[fault])
-    if fault == base + layout.RATE:
-        most = project.corridor.word(node, layout.RAMP_CAPACITY)
-        sentence = f"at {time} the rate of {label} is {_per_hour(word, project)}, and its ramp's capacity {_per_hour(most, project)}"
+    suspects = [Suspect([base + place], 0) for place in (layout.RATE, layout.LIMIT)]
+    place = _at_fault(refusal, plan.words, suspects, _ask_plan(project))[0]
+    label, time, word = project.corridor.nodes[node].label, project.clock.at(step), int(plan.words[base + place])
+    if place == layout.RATE:
+        rate, most = _both(word, project.corridor.word(node, layout.RAMP_CAPACITY), factor("vph", project.clock.step))
+        sentence = f"at {time} the rate of {label} is {rate} veh/h, and its ramp's capacity {most} veh/h"
     elif node == 0:
         sentence = f"at {time} a limit at {label}: the entry has no link to post it on"
     else:
-        most = project.corridor.word(node, layout.FULL_SPEED)
-        sentence = f"at {time} the limit on the link to {label} is {_speed(word, node, project)}, and its full speed {_speed(most, node, project)}"
-    return Told(refusal, f"{sentence} ({word:,} units)", [plan.cell(step, node, fault - base)])
+        limit, most = _both_speeds(word, project.corridor.word(node, layout.FULL_SPEED), node, project)
+        sentence = f"at {time} the limit on the link to {label} is {limit}, and its full speed {most}"
+    return Told(refusal, f"{sentence} ({word:,} units)", [plan.cell(step, node, place)])
+
+
+def _ask_plan(project: Project) -> Ask:
+    return lambda words: calls.simulate_words(project.corridor.words, project.demands.words, words)
+
+
+def _both(one: int, other: int, scale: Fraction) -> tuple[str, str]:
+    """Two words in the unit of which one is so many words, with decimals enough to tell them apart."""
+    return told_apart(one / scale, other / scale)
+
+
+def _both_speeds(one: int, other: int, node: int, project: Project) -> tuple[str, str]:
+    length = project.corridor.nodes[node].length
+    if length is None:
+        return f"{one:,} units", f"{other:,} units"
+    first, second = _both(one, other, factor("kmh", project.clock.step, length))
+    return f"{first} km/h", f"{second} km/h"
 
 
 def _overflow_of_plan(refusal: Refusal, project: Project, plan: Plan) -> Told:
@@ -380,17 +392,13 @@ def _ask_record(project: Project) -> Ask:
     return lambda words: calls.check_words(project.corridor.words, project.demands.words, words)
 
 
-def _faulty_words(
-    refusal: Refusal, project: Project, record: Record, places: Iterable[int], trials: Iterable[int] = ()
-) -> list[int]:
-    """The places within a node's words in state `row` that are at fault."""
+def _faulty_words(refusal: Refusal, project: Project, record: Record, sound: dict[int, int]) -> list[int]:
+    """The places within a node's words in state `row` that are at fault, told a sound word for each."""
     _, nodes, width = record.states.shape
     base = (refusal.row * nodes + refusal.node) * width
-    places = [place for place in places if place < width]
-    return [
-        places[each]
-        for each in _at_fault(refusal, record.words, [[base + place] for place in places], _ask_record(project), trials)
-    ]
+    places = [place for place in sound if place < width]
+    suspects = [Suspect([base + place], sound[place]) for place in places]
+    return [places[each] for each in _at_fault(refusal, record.words, suspects, _ask_record(project))]
 
 
 _WHAT = (
@@ -406,16 +414,17 @@ _WHAT = (
 def _fixed(refusal: Refusal, project: Project, record: Record) -> Told:
     """7: a start that is not the corridor's, or a word that is fixed at zero."""
     state, node = refusal.row, refusal.node
-    starts = [project.corridor.word(node, place) for place in (layout.START_VEHICLES, layout.START_QUEUE)]
-    fault = _faulty_words(refusal, project, record, range(5), starts)
+    starts = {
+        layout.VEHICLES: project.corridor.word(node, layout.START_VEHICLES),
+        layout.QUEUE: project.corridor.word(node, layout.START_QUEUE),
+    }
+    zeros = dict.fromkeys(range(layout.EXIT_FLOW + 1), 0)
+    fault = _faulty_words(refusal, project, record, zeros | starts if state == 0 else zeros)
     place = fault[0]
-    word, label, time = (
-        int(record.states[state, node, place]),
-        project.corridor.nodes[node].label,
-        project.clock.at(state),
-    )
+    word, label = int(record.states[state, node, place]), project.corridor.nodes[node].label
+    time = project.clock.at(state)
     given = f"at {time} {_WHAT[place]} {label} is {word:,} units"
-    if state == 0 and place in (layout.VEHICLES, layout.QUEUE) and starts[place] != word:
+    if state == 0 and place in starts:
         sentence = f"{given}, and the corridor starts with {starts[place]:,}"
     else:
         sentence = f"{given}, and is fixed at zero there"
@@ -442,7 +451,7 @@ def _sending(refusal: Refusal, project: Project, record: Record) -> Told:
 def _merge(refusal: Refusal, project: Project, record: Record) -> Told:
     """9: more than the next link can take in."""
     step, node = refusal.row, refusal.node
-    fault = _faulty_words(refusal, project, record, [layout.FLOW, layout.RAMP_FLOW])
+    fault = _faulty_words(refusal, project, record, {layout.FLOW: 0, layout.RAMP_FLOW: 0})
     flow, ramp = (_flow_at(refusal, project, record, place) for place in (layout.FLOW, layout.RAMP_FLOW))
     time, label = project.clock.at(step), project.corridor.nodes[node].label
     if node == project.links:

@@ -7,7 +7,7 @@ from dataclasses import dataclass
 from fractions import Fraction
 from functools import lru_cache
 
-_TIME = re.compile(r"(\d{1,3}):([0-5]\d)(?::([0-5]\d)(\.\d+)?)?")
+_TIME = re.compile(r"([0-9]{1,3}):([0-5][0-9])(?::([0-5][0-9])(\.[0-9]+)?)?")
 
 EXPECTED_TIME = "a time of day such as 07:30 or 07:30:10"
 

@@ -5,6 +5,8 @@ from __future__ import annotations
 from fractions import Fraction
 from functools import lru_cache
 
+from .sizes import GREATEST_WORD
+
 FLOW = ("vph", "units")
 SPEED = ("kmh", "mph", "units")
 DENSITY = ("vpkm", "veh", "units")
@@ -26,7 +28,6 @@ SYMBOLS = {
     "units": "units",
 }
 
-GREATEST_WORD = 2**32 - 1
 UNITS_PER_VEHICLE = 64
 ONE = 65_536
 """A section per step, and the whole of a flow."""

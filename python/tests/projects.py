@@ -1,5 +1,5 @@
-"""Small projects for tests: a valley road and corridor B of docs/MODEL.md, both in the field's units; block files as the
-header has them; and the command run on them."""
+"""Small projects for tests: a valley road and corridor B of docs/MODEL.md, both in the field's units; block files as
+the header has them; and the command run on them."""
 
 import contextlib
 import json

@@ -111,7 +111,7 @@ pub fn all_text(folder: &str) -> String {
             let path = entry.expect("it can be read").path();
             let name = path.file_name().expect("it has one").to_string_lossy().into_owned();
             if path.is_dir() {
-                if name != "target" {
+                if name != "target" && name != "__pycache__" {
                     folders.push(path);
                 }
                 continue;

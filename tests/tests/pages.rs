@@ -191,7 +191,8 @@ fn links_lead_somewhere() {
 #[test]
 fn quoted_names_exist() {
     let plain = |c: char| c.is_ascii_alphanumeric() || c == '-' || c == '_';
-    let code = ["crates", "tests", "tools", "include", "examples", ".ci"].map(all_text).concat();
+    let folders = ["crates", "tests", "tools", "include", "examples", "python", ".ci"];
+    let code = folders.map(all_text).concat();
     let known: BTreeSet<&str> = code.split(|c| !plain(c)).collect();
     for (page, least) in [
         ("README.md", 10),

@@ -33,7 +33,9 @@ def write_project(folder: Path, links: int, steps: int) -> None:
     lines = ['title = "measured"', 'start = "06:00"', "step_s = 10", f"steps = {steps}", "[files]"]
     lines += [f'{name} = "{name}.csv"' for name in ("corridor", "arrivals", "splits")]
     (folder / "project.toml").write_text("\n".join([*lines, "[plans]", 'metered = "plan.csv"', ""]))
-    columns = "id,length_m,capacity_vph,free_speed_kmh,wave_speed_kmh,jam_density_vpkm,ramp_capacity_vph,queue_limit_veh"
+    columns = (
+        "id,length_m,capacity_vph,free_speed_kmh,wave_speed_kmh,jam_density_vpkm,ramp_capacity_vph,queue_limit_veh"
+    )
     rows = [columns, "100,,,,,,9000,none"]
     for node in range(1, links + 1):
         ramp = "1000,2000" if node < links else ","

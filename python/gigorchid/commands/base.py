@@ -18,7 +18,7 @@ from rich.progress import track
 from rich.table import Table
 from rich.text import Text
 
-from ..project import Project
+from ..project import ENDINGS, Project
 from .. import progress
 from ..plans import Plan, write_plan
 from ..records import Record, write_record
@@ -155,19 +155,35 @@ def load_project(path: str) -> Project:
     return Project.load(path)
 
 
+def _found(project: Project, name: str) -> Path | None:
+    """A file that is named on the command line, here or else in the project's folder."""
+    return next((path for path in (Path(name), project.folder / name) if path.is_file()), None)
+
+
+def _test_ending(name: str) -> None:
+    if Path(name).suffix not in ENDINGS:
+        raise click.UsageError(f"{name}: the file of a plan or a record ends in {' or '.join(ENDINGS)}")
+
+
 def load_plan(project: Project, name: str) -> Plan:
     """A plan by its name in the project, or by its file."""
-    if name not in project.plans and not Path(name).is_file():
+    if name in project.plans:
+        return project.plan(name)
+    path = _found(project, name)
+    if path is None:
         known = ", ".join(project.plans) or "none"
         raise click.UsageError(f"there is no plan {name}: neither a file, nor one of the project's plans ({known})")
-    return project.plan(name)
+    _test_ending(name)
+    return project.plan(path)
 
 
 def load_record(project: Project, name: str) -> Record:
     """A record by its file."""
-    if not Path(name).is_file():
+    path = _found(project, name)
+    if path is None:
         raise click.UsageError(f"there is no record {name}; `gigorchid simulate PROJECT PLAN -o {name}` writes one")
-    return project.record(name)
+    _test_ending(name)
+    return project.record(path)
 
 
 project_argument = click.argument("project", metavar="PROJECT")
@@ -185,8 +201,7 @@ def _write(output: str, text: Callable[[], str], save: Callable[[Path], None]) -
     if output == STANDARD_OUTPUT:
         click.echo(text(), nl=False)
         return
-    if Path(output).suffix not in (".csv", ".blocks"):
-        raise click.UsageError(f"{output}: a file that is written ends in .csv or .blocks")
+    _test_ending(output)
     try:
         save(Path(output))
     except OSError as error:

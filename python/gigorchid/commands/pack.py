@@ -25,8 +25,10 @@ def command(project: str, folder: str, records: tuple[str, ...]) -> Outcome:
     road = load_project(project)
     files = packed(road)
     for name in records:
-        record = load_record(road, name)
-        files[f"{Path(name).stem}.blocks"] = calls.write_record(road.links, road.steps, record.words).tobytes()
+        record, file = load_record(road, name), f"{Path(name).stem}.blocks"
+        if file in files:
+            raise click.UsageError(f"--record {name}: {file} is another file here")
+        files[file] = calls.write_record(road.links, road.steps, record.words).tobytes()
     write_files(folder, files)
     rows = [[name, f"{len(content):,}", f"{len(content) // 512:,}"] for name, content in files.items()]
     data = {
