@@ -46,14 +46,24 @@ class BlockFile(NamedTuple):
 
 
 def load(path: Path) -> BlockFile:
-    """A block file, with the list that its first word tells."""
+    """A block file, with the list that its first word tells, or else the one after which it is named."""
     content = path.read_bytes()
-    kind = int.from_bytes(content[:4], "little") if len(content) >= 4 else None
-    if kind not in PLACES:
+    kind = int.from_bytes(content[:4], "little") if len(content) >= 4 else 0
+    named = next((place for place in KINDS if path.stem.startswith(place)), None)
+    if kind not in PLACES and named is None:
         known = ", ".join(f"{number} ({place})" for number, place in sorted(PLACES.items()))
-        found = "fewer than 4 bytes" if kind is None else f"its first word is {kind:,}"
-        raise Fault(Cell(str(path)), f"{found}: expected a block file, of kind {known}")
-    return BlockFile(str(path), PLACES[kind], content)
+        raise Fault(Cell(str(path)), f"its first word is {kind:,}: expected a block file, of kind {known}")
+    return BlockFile(str(path), PLACES.get(kind) or str(named), content)
+
+
+def _the_one(files: list[BlockFile], place: str) -> BlockFile:
+    """The one file of a corridor or of demands: where none says so, the one that is named so, which its reader will refuse."""
+    found = [file for file in files if file.place == place]
+    found = found or [file._replace(place=place) for file in files if Path(file.name).stem.startswith(place)]
+    if len(found) != 1:
+        given = ", ".join(f"{file.name} ({file.place})" for file in files)
+        raise ValueError(f"{len(found) or 'no'} files of the {place} among {given}: one is wanted")
+    return found[0]
 
 
 def words_of(file: BlockFile, links: int, steps: int) -> Words:
@@ -86,14 +96,11 @@ class Unpacked(NamedTuple):
 
 def unpacked(files: list[BlockFile], title: str, start: Fraction, step: Fraction, like: Project | None) -> Unpacked:
     """The tables of a corridor, its demands, and any plans and records, all in exact units."""
-    by_place = {place: [file for file in files if file.place == place] for place in KINDS}
-    for place in ("corridor", "demands"):
-        if len(by_place[place]) != 1:
-            names = ", ".join(file.name for file in by_place[place]) or "none"
-            raise Fault(Cell(names), f"expected one file of the {place}")
-    links, steps = (by_place[place][0].opening for place in ("corridor", "demands"))
-    words = words_of(by_place["corridor"][0], links, steps)
-    demands = words_of(by_place["demands"][0], links, steps)
+    first, second = _the_one(files, "corridor"), _the_one(files, "demands")
+    others = [file for file in files if file.name not in (first.name, second.name)]
+    by_place = {place: [file for file in others if file.place == place] for place in KINDS}
+    links, steps = first.opening, second.opening
+    words, demands = words_of(first, links, steps), words_of(second, links, steps)
     clock = Clock(start, step, steps)
     nodes = _nodes(words, like)
     corridor = Corridor(nodes, words, {}, [])
@@ -120,6 +127,8 @@ def _nodes(words: Words, like: Project | None) -> list[Node]:
     """The corridor's nodes, with names and lengths where a project knows them."""
     known: Mapping[int, Node] = {node.identifier: node for node in like.corridor.nodes} if like else {}
     identifiers = layout.corridor_nodes(words)[:, layout.IDENTIFIER].tolist()
+    if like is not None and not known.keys() & set(identifiers):
+        raise ValueError(f"{like.title} has none of these identifiers: it is no project to take names and times from")
     return [Node(each, known[each].name, known[each].length) if each in known else Node(each) for each in identifiers]
 
 

@@ -9,11 +9,12 @@ import numpy as np
 
 from . import layout
 from .layout import Places, Words
-from .corridor import QUANTITIES
+from .corridor import QUANTITIES, Corridor
 from .plans import Plan, runs
 from .project import Project
 from .records import Record
 from .tell import Told
+from .units import nearest
 
 SAME, DIFFERENT, NOT_COMPARABLE = "SAME", "DIFFERENT", "NOT COMPARABLE"
 
@@ -179,7 +180,8 @@ def _clocks_differ(a: Side, b: Side) -> bool:
 
 def _shared(a: Side, b: Side, at: int, to: int, in_time: bool) -> ByIdentifier:
     one, other = a.project.corridor, b.project.corridor
-    columns = [stem for stem, (_, place) in QUANTITIES.items() if one.word(at, place) != other.word(to, place)]
+    columns = ["length"] if one.nodes[at].length != other.nodes[to].length else []
+    columns += [stem for stem, (_, place) in QUANTITIES.items() if _figures_differ(one, at, other, to, place)]
     firsts: dict[str, int | None] = {}
     if in_time:
         for name, (left, right) in _series(a, b, at, to).items():
@@ -188,14 +190,32 @@ def _shared(a: Side, b: Side, at: int, to: int, in_time: bool) -> ByIdentifier:
     return ByIdentifier(one.nodes[at].identifier, at, to, columns, firsts)
 
 
-def _series(a: Side, b: Side, at: int, to: int) -> dict[str, tuple[Words, Words]]:
+def _figures_differ(one: Corridor, at: int, other: Corridor, to: int, place: int) -> bool:
+    """Whether a quantity differs as it was written, since a word may differ for the link's length alone; else by its words."""
+    cells = one.cell(at, place), other.cell(to, place)
+    if cells[0] is not None and cells[1] is not None and cells[0].column == cells[1].column:
+        return cells[0].text != cells[1].text
+    return one.word(at, place) != other.word(to, place)
+
+
+def _posted(each: Side, node: int) -> Places:
+    """The limits at a node in tenths of the unit of speeds, or, where a length is missing, in units."""
+    limits = each.plan.limits[:, node]
+    corridor, step = each.project.corridor, each.project.clock.step
+    speeds = {word: corridor.speed(word, node, step) for word in np.unique(limits).tolist()}
+    shown = {word: word if speed is None else nearest(speed * 10) for word, speed in speeds.items()}
+    return np.array([shown[word] for word in limits.tolist()])
+
+
+def _series(a: Side, b: Side, at: int, to: int) -> dict[str, tuple[Places, Places]]:
     """What a node that both have does in time, as words that mean the same wherever it stands."""
     steps = [layout.demand_steps(each.project.demands.words, each.project.links, each.project.steps) for each in (a, b)]
     return {
         "arrivals": (steps[0][:, at, layout.ARRIVALS], steps[1][:, to, layout.ARRIVALS]),
         "split": (steps[0][:, at, layout.SPLIT], steps[1][:, to, layout.SPLIT]),
         "rate": (a.plan.rates[:, at], b.plan.rates[:, to]),
+        "limit": (_posted(a, at), _posted(b, to)),
         "queue": (a.record.queues[:, at], b.record.queues[:, to]),
-        "ramp flow": (a.record.ramp_flows[:, at], b.record.ramp_flows[:, to]),
-        "mainline flow": (a.record.flows[:, at], b.record.flows[:, to]),
+        "ramp_flow": (a.record.ramp_flows[:, at], b.record.ramp_flows[:, to]),
+        "flow": (a.record.flows[:, at], b.record.flows[:, to]),
     }

@@ -12,7 +12,7 @@ from .layout import Words
 from .sheets import Cell, Fault, Row, Sheet, expected, figure, number, whole_number, written
 from .times import decimal_text
 from .sizes import GREATEST_WORD
-from .units import COUNT, DENSITY, FLOW, LENGTH, PER_LINK, SPEED, factor, fits_word, nearest
+from .units import COUNT, DENSITY, FLOW, LENGTH, PER_LINK, SPEED, SYMBOLS, decimal, factor, fits_word, nearest, tidy
 
 LINK = {
     "capacity": (FLOW, layout.CAPACITY),
@@ -76,10 +76,14 @@ class Given:
 class Corridor:
     """A corridor's words, the nodes' names, and for each word where it came from."""
 
-    def __init__(self, nodes: list[Node], words: Words, cells: dict[int, Cell], given: list[Given]):
+    def __init__(
+        self, nodes: list[Node], words: Words, cells: dict[int, Cell], given: list[Given], speeds: str = "kmh"
+    ):
         self.nodes = nodes
         self.words = words
         self.given = given
+        self.speeds = speeds
+        """The ending of the unit in which speeds are shown: that of the table, or kmh."""
         self._cells = cells
 
     @property
@@ -107,6 +111,16 @@ class Corridor:
         """Where that word came from, if a cell holds it."""
         return self._cells.get(1 + node * self.width + place)
 
+    def speed(self, word: int, node: int, step: Fraction) -> Fraction | None:
+        """A speed on the link that ends at a node, in the unit in which speeds are shown; None where its length is not known."""
+        length = self.nodes[node].length
+        return None if length is None else word / factor(self.speeds, step, length)
+
+    def speed_text(self, word: int, node: int, step: Fraction) -> str:
+        """The same for people, or in units."""
+        speed = self.speed(word, node, step)
+        return f"{word:,} units" if speed is None else f"{tidy(decimal(speed, 1))} {SYMBOLS[self.speeds]}"
+
     def node_of(self, identifier: int) -> int | None:
         """The place of an identifier in the corridor."""
         return next((place for place, node in enumerate(self.nodes) if node.identifier == identifier), None)
@@ -133,7 +147,8 @@ def read_corridor(sheet: Sheet, step: Fraction) -> Corridor:
     for place, (row, node) in enumerate(zip(sheet.rows, nodes)):
         reader.row(row, node, place == 0)
     words = np.array([len(nodes) - 1] + reader.words, dtype=np.uint32)
-    return Corridor(nodes, words, reader.cells, reader.given)
+    shown = "mph" if found["free_speed"][1] == "mph" else "kmh"
+    return Corridor(nodes, words, reader.cells, reader.given, shown)
 
 
 class _Reader:
@@ -184,7 +199,7 @@ class _Reader:
             return 0
         if stem == "queue_limit" and cell.text == "none":
             return NO_LIMIT
-        return self.converted(cell, self.found[stem][1], node)
+        return self.converted(cell, self.found[stem][1], node, first)
 
     def test_blank(self, row: Row, stem: str, cell: Cell, first: bool) -> None:
         """Faults a blank cell where a figure is needed."""
@@ -197,11 +212,14 @@ class _Reader:
                 none = " or none" if stem == "queue_limit" else ""
                 raise expected(cell, f"a number{none}, since {beside.column} is {beside.text}")
 
-    def converted(self, cell: Cell, ending: str, node: Node) -> int:
+    def converted(self, cell: Cell, ending: str, node: Node, first: bool) -> int:
         """The word nearest to the figure in a cell."""
-        value = figure(cell, ending, GREATEST_WORD)
+        value = figure(cell, ending, GREATEST_WORD, "none" if cell.column.startswith("queue_limit") else "")
         if ending in PER_LINK and node.length is None and value != 0:
-            raise Fault(cell, f"{cell.text}: expected a length_m in this row, which {ending} needs")
+            wanted = (
+                "blank, since no link ends at the entry" if first else f"a length_m in this row, which {ending} needs"
+            )
+            raise Fault(cell, f"{cell.text}: expected {wanted}")
         scale = factor(ending, self.step, node.length or Fraction(1))
         word = nearest(value * scale)
         if not fits_word(word):

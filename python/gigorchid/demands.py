@@ -59,7 +59,8 @@ class Series:
         exact = []
         for row in self.sheet.rows:
             cell = self.sheet.cell(row, place)
-            value = named[cell.text] if cell.text in named else figure(cell, ending, GREATEST_WORD) * scale
+            words = " or ".join(named)
+            value = named[cell.text] if cell.text in named else figure(cell, ending, GREATEST_WORD, words) * scale
             if not fits_word(ceil(value)):
                 raise Fault(cell, f"{cell.text} is {ceil(value):,} units a step: expected at most {GREATEST_WORD:,}")
             exact.append(value)

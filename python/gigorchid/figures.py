@@ -9,7 +9,7 @@ import numpy as np
 
 from . import layout
 from .records import Record
-from .units import UNITS_PER_VEHICLE
+from .units import ONE, UNITS_PER_VEHICLE
 
 MARK = "*"
 NOT_PROVED = f"{MARK} computed by this tool from the record's words, not proved"
@@ -72,3 +72,27 @@ def greatest_queues(record: Record) -> list[GreatestQueue]:
             limit = record.corridor.word(node, layout.QUEUE_LIMIT)
             found.append(GreatestQueue(node, int(record.queues[state, node]), limit, state))
     return found
+
+
+class Slowest(NamedTuple):
+    """Where and when traffic was slowest: the node at which the link ends, the state, and the speed in the unit of speeds."""
+
+    node: int
+    state: int
+    speed: Fraction
+
+
+def slowest(record: Record) -> Slowest | None:
+    """The lowest mean speed, f / n of a link in a step, of the links with a length and at least a vehicle on them."""
+    found: list[Slowest] = []
+    corridor, step = record.corridor, record.clock.step
+    for node in range(1, corridor.links + 1):
+        vehicles, flows = record.vehicles[:-1, node].astype(float), record.flows[:-1, node]
+        if corridor.nodes[node].length is None or not (vehicles >= UNITS_PER_VEHICLE).any():
+            continue
+        shares = np.where(vehicles >= UNITS_PER_VEHICLE, flows / np.maximum(vehicles, 1), np.inf)
+        state = int(shares.argmin())
+        share = Fraction(int(flows[state]), int(vehicles[state]))
+        section = corridor.speed(ONE, node, step) or Fraction(0)
+        found.append(Slowest(node, state, share * section))
+    return min(found, key=lambda each: each.speed) if found else None

@@ -12,7 +12,10 @@ from .plans import Plan, SheetSource
 from .project import Project
 from .sheets import Cell
 from .tell import vehicles
-from .units import SYMBOLS, UNITS_PER_VEHICLE, decimal, factor, tidy
+from .units import ONE, SYMBOLS, UNITS_PER_VEHICLE, decimal, factor, tidy
+
+LEAST_SHARE, GREATEST_SHARE = Fraction(1, 2), Fraction(2)
+"""A capacity outside these shares of what speeds and jam make is probably a slip."""
 
 COARSE = Fraction(1, 100)
 """A figure that rounding changes by more than this is worth a warning."""
@@ -117,7 +120,10 @@ def warnings(project: Project, plans: Iterable[Plan]) -> list[str]:
         corridor_figures(project) + split_figures(project) + [each for plan in plans for each in plan_figures(plan)]
     )
     found = [_coarse(each) for each in figures if each.change is not None and abs(each.change) > COARSE]
-    return found + _nodes(project) + _unused(project, plans)
+    found += [warning for plan in plans for warning in _slips(plan)]
+    return (
+        found + _splits(project) + _nodes(project) + _links(project) + _names_twice(project) + _unused(project, plans)
+    )
 
 
 def _coarse(each: Rounded) -> str:
@@ -143,7 +149,47 @@ def _nodes(project: Project) -> list[str]:
             found.append(f"{place}: the link to {node.label} has a wave speed above its free speed")
         if number and node.length is None:
             found.append(f"{place}: the link to {node.label} has no length: speeds and kilometres are not shown")
-    return found + _names_twice(project)
+        if capacity and int(arrivals.mean()) > capacity:
+            found.append(f"{place}: {node.label}: more arrive than its ramp can pass, over all steps")
+    return found
+
+
+def _links(project: Project) -> list[str]:
+    """Capacities that the speeds and the jam of their link do not bear out."""
+    found = []
+    for number, node in enumerate(project.corridor.nodes[1:], 1):
+        words = (layout.CAPACITY, layout.FULL_SPEED, layout.WAVE_SPEED, layout.JAM)
+        capacity, full, wave, jam = (project.corridor.word(number, place) for place in words)
+        peak = Fraction(full * wave * jam, (full + wave) * ONE) if full + wave else Fraction(0)
+        share = Fraction(capacity) / peak if peak else Fraction(1)
+        if not LEAST_SHARE <= share <= GREATEST_SHARE:
+            told = tidy(decimal(peak / factor("vph", project.clock.step), 0))
+            found.append(
+                f"{node.cell.place}: the capacity of the link to {node.label} is far from the {told} veh/h that its "
+                f"speeds and its jam density make"
+            )
+    return found
+
+
+def _splits(project: Project) -> list[str]:
+    """Splits so small that they may have been meant as shares of one."""
+    figures = _series_figures(project.demands.splits, project)
+    small = [each for each in figures if 0 < Fraction(each.text) < 1]
+    return [f"{each.file}:{each.lines[0]}: {each.column}: {each.text} % is little: 5 % is written 5" for each in small]
+
+
+def _slips(plan: Plan) -> list[str]:
+    """Rows of a plan that meter a node without a ramp, or close a link."""
+    if not isinstance(plan.source, SheetSource):
+        return []
+    found = []
+    for cell, node, word in plan.source.said(plan.settings):
+        label = plan.corridor.nodes[node].label
+        if cell.column.startswith("rate") and not plan.corridor.word(node, layout.RAMP_CAPACITY):
+            found.append(f"{cell.place}: {label} has no on-ramp to meter")
+        if cell.column.startswith("limit") and node and word == 0:
+            found.append(f"{cell.place}: a limit of 0 stops all traffic on the link to {label}")
+    return found
 
 
 def _names_twice(project: Project) -> list[str]:
@@ -158,6 +204,5 @@ def _unused(project: Project, plans: list[Plan]) -> list[str]:
     cells = []
     for series in (project.demands.arrivals, project.demands.splits, project.demands.downstream):
         cells += series.unused_rows() if series is not None else []
-    for plan in plans:
-        cells += plan.source.unused_rows() if isinstance(plan.source, SheetSource) else []
-    return [f"{cell.place}: this row says nothing of the steps from {first} to {last}" for cell in cells]
+    told = [f"{cell.place}: this row says nothing of the steps from {first} to {last}" for cell in cells]
+    return told + [warning for plan in plans for warning in plan.outside()]

@@ -23,7 +23,10 @@ _FILES = {
     "/usr/lib/python3/dist-packages/gigorchid": "the Python package",
     "/usr/share/doc/gigorchid": "the documents, and examples in C",
 }
-_SEE_ALSO = "The model and the refusals are in /usr/share/doc/gigorchid/MODEL.md."
+_SEE_ALSO = (
+    "Files and columns are in /usr/share/doc/gigorchid/FORMATS.md, the model and the refusals in "
+    "/usr/share/doc/gigorchid/MODEL.md."
+)
 
 
 class Paragraph(NamedTuple):

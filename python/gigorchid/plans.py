@@ -12,8 +12,8 @@ from . import calls, layout
 from .layout import Places, Words
 from .corridor import Corridor
 from .progress import watched
-from .sheets import Cell, Fault, Row, Sheet, expected, figure, state_of, time_of, whole_number, written
-from .times import Clock
+from .sheets import Cell, Fault, Row, Sheet, expected, figure, save, state_of, time_of, whole_number, written
+from .times import Clock, format_time
 from .sizes import GREATEST_WORD
 from .units import FLOW, PER_LINK, SPEED, factor, fits_word, nearest, shown
 
@@ -56,9 +56,18 @@ class Plan:
     def save(self, path: str | Path, comments: Iterable[str] = ()) -> None:
         """Writes the plan as a table or, where the name ends in .blocks, as a block file."""
         if Path(path).suffix == ".blocks":
-            Path(path).write_bytes(calls.write_plan(self.corridor.links, self.clock.steps, self.words).tobytes())
+            save(Path(path), calls.write_plan(self.corridor.links, self.clock.steps, self.words).tobytes())
         else:
-            Path(path).write_text(write_plan(self, comments), encoding="utf-8")
+            save(Path(path), write_plan(self, comments).encode())
+
+    def outside(self) -> list[str]:
+        """A warning for each row that says nothing of any step."""
+        first, last = self.clock.at(0), self.clock.at(self.clock.steps)
+        cells = self.source.unused_rows()
+        return [f"{cell.place}: this row says nothing of the steps from {first} to {last}" for cell in cells]
+
+    def __repr__(self) -> str:
+        return f"<Plan {self.name}: {self.corridor.links} links, {self.clock.steps} steps>"
 
     def frame(self) -> pandas.DataFrame:
         """The plan as a table of pandas: a row for each step and node, in exact units, with time and name."""
@@ -71,6 +80,10 @@ class PlanSource:
     def cell(self, step: int, node: int, place: int) -> Cell | None:
         """The cell of a rate or a limit."""
         return None
+
+    def unused_rows(self) -> list[Cell]:
+        """The rows that say nothing of any step."""
+        return []
 
 
 class SheetSource(PlanSource):
@@ -121,7 +134,8 @@ def node_frame(row: str, words: Mapping[str, Words], corridor: Corridor, clock: 
         "id": np.tile([node.identifier for node in corridor.nodes], rows),
         "name": np.tile([node.name for node in corridor.nodes], rows),
     }
-    return pandas.DataFrame(columns | {name: values.reshape(-1) for name, values in words.items()})
+    # Signed, so that a difference of two does not wrap.
+    return pandas.DataFrame(columns | {name: values.reshape(-1).astype(np.int64) for name, values in words.items()})
 
 
 def block_cell(file: str, word: int) -> Cell:
@@ -170,7 +184,8 @@ def _steps_of(sheet: Sheet, row: Row, found: dict[str, tuple[int, str]], clock: 
     first = state_of(since, clock) if since.text else 0
     last = state_of(until, clock) if until.text else clock.steps
     if since.text and until.text and time_of(until) <= time_of(since):
-        raise expected(until, f"a time after {since.text}")
+        later = format_time(time_of(until) + 24 * 3600)
+        raise expected(until, f"a time after {since.text}; of the next day it is written {later}")
     return max(first, 0), max(min(last, clock.steps), 0)
 
 
@@ -209,7 +224,8 @@ def runs(settings: Places) -> Iterable[tuple[int, int]]:
 
 def write_plan(plan: Plan, comments: Iterable[str] = ()) -> str:
     """A table in exact units: a row for each run of steps in which a node's setting stays the same."""
-    columns = ["id", "from", "until", "rate_units", "limit_units", "#name", "#rate_vph", "#limit_kmh", "#setting"]
+    people = ["(name)", "(rate_vph)", f"(limit_{plan.corridor.speeds})", "(setting)"]
+    columns = ["id", "from", "until", "rate_units", "limit_units", *people]
     table = []
     for number, node in enumerate(plan.corridor.nodes):
         capacity, full = (plan.corridor.word(number, place) for place in (layout.RAMP_CAPACITY, layout.FULL_SPEED))
@@ -224,8 +240,8 @@ def write_plan(plan: Plan, comments: Iterable[str] = ()) -> str:
 
 
 def _for_people(rate: int, limit: int, node: int, plan: Plan) -> list[str]:
-    """Rate in vehicles and limit in kilometres per hour, blank where the node has no ramp or no link."""
+    """Rate in vehicles per hour and limit in the unit of speeds, blank where the node has no ramp or no link."""
     length, step = plan.corridor.nodes[node].length, plan.clock.step
     vph = shown(rate, factor("vph", step)) if plan.corridor.word(node, layout.RAMP_CAPACITY) else ""
-    kmh = shown(limit, factor("kmh", step, length)) if node and length else ""
-    return [vph, kmh]
+    speed = shown(limit, factor(plan.corridor.speeds, step, length)) if node and length else ""
+    return [vph, speed]

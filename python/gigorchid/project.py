@@ -43,7 +43,8 @@ class Project:
 
     def __init__(self, folder: Path, settings: _Settings, clock: Clock, corridor: Corridor, demands: Demands):
         self.folder = folder
-        self.title = settings.title()
+        self.title = settings.title() or folder.resolve().name
+        """What the project is called: the name of its folder where it says nothing else."""
         self.plans = settings.plans()
         self.clock = clock
         self.corridor = corridor
@@ -81,12 +82,28 @@ class Project:
         """K."""
         return self.clock.steps
 
+    def __repr__(self) -> str:
+        return (
+            f"<Project {self.title}: {self.links} links, {self.steps} steps, plans {', '.join(self.plans) or 'none'}>"
+        )
+
+    def own_files(self) -> set[Path]:
+        """The files that the project is read from."""
+        names = [FILE, *self._settings.files().values(), *self.plans.values()]
+        return {(self.folder / name).resolve() for name in names}
+
     def plan(self, name: str | Path) -> Plan:
         """A plan: by its name in project.toml, or by a file, a table or a block file."""
         told = self.plans.get(str(name))
         if told is not None:
             return self._plan_of(self._settings.found(self.folder, told, str(name), "plans"), told, str(name))
+        if not Path(name).is_file():
+            known = ", ".join(self.plans) or "none"
+            raise Fault(Cell(str(name)), f"no such file: expected one, or a plan of the project ({known})")
         return self._plan_of(Path(name), str(name), Path(name).stem)
+
+    def _given(self, plan: Plan | str | Path) -> Plan:
+        return plan if isinstance(plan, Plan) else self.plan(plan)
 
     def _plan_of(self, path: Path, told: str, name: str) -> Plan:
         if path.suffix != ".blocks":
@@ -119,8 +136,9 @@ class Project:
         except Refusal as refusal:
             raise tell.of_file(refusal, told, place, file, self.links, self.steps) from None
 
-    def simulate(self, plan: Plan, kind: int = 3) -> Record:
-        """The plan's record, of kind 3 or 7."""
+    def simulate(self, plan: Plan | str | Path, kind: int = 3) -> Record:
+        """The plan's record, of kind 3 or 7, which lists the exits."""
+        plan = self._given(plan)
         try:
             words = calls.simulate_words(self.corridor.words, self.demands.words, plan.words, kind=kind)
         except Refusal as refusal:
@@ -142,8 +160,9 @@ class Project:
             raise tell.of_record(refusal, self, record) from None
         return Plan(name, words, self.corridor, self.clock, PlanSource())
 
-    def normal(self, plan: Plan, kind: int = 3) -> Normal:
-        """The plan's record and its normal form. Refused by 12, the Refusal has the record as `work`."""
+    def normal(self, plan: Plan | str | Path, kind: int = 3) -> Normal:
+        """The plan's record and its normal form. Refused by 12, the Refusal has the words of the record as `work`."""
+        plan = self._given(plan)
         try:
             record, words = calls.normal_words(self.corridor.words, self.demands.words, plan.words, kind=kind)
         except Refusal as refusal:
@@ -182,7 +201,10 @@ class _Settings:
     def _no_toml(self, error: tomllib.TOMLDecodeError) -> Fault:
         told = str(error)
         line = re.search(r"at line (\d+)", told)
-        return Fault(Cell(self._name, int(line.group(1)) if line else 0), f"no TOML: {told}")
+        number = int(line.group(1)) if line else 0
+        text = self._text.splitlines()[number - 1] if number else ""
+        hint = "; a time stands in quotation marks" if re.search(r"=\s*\d+:\d\d\s*(#.*)?$", text) else ""
+        return Fault(Cell(self._name, number), f"no TOML: {told}{hint}")
 
     def _test_keys(self, values: Mapping[str, object], known: tuple[str, ...], table: str | None) -> None:
         for key in values:

@@ -13,7 +13,7 @@ from .layout import Words
 from .corridor import Corridor
 from .plans import block_cell, node_frame
 from .progress import watched
-from .sheets import Cell, Fault, Row, Sheet, expected, whole_number, written
+from .sheets import Cell, Fault, Row, Sheet, expected, save, whole_number, written
 from .times import Clock
 from .sizes import GREATEST_WORD
 
@@ -80,12 +80,15 @@ class Record:
         """Where a word of a node in a state came from."""
         return None if self._cell is None else self._cell(state, node, place)
 
+    def __repr__(self) -> str:
+        return f"<Record of kind {self.kind}: {self.corridor.links} links, {self.clock.steps} steps, cost {self.cost}>"
+
     def save(self, path: str | Path) -> None:
         """Writes the record as a table or, where the name ends in .blocks, as a block file."""
         if Path(path).suffix == ".blocks":
-            Path(path).write_bytes(calls.write_record(self.corridor.links, self.clock.steps, self.words).tobytes())
+            save(Path(path), calls.write_record(self.corridor.links, self.clock.steps, self.words).tobytes())
         else:
-            Path(path).write_text(write_record(self), encoding="utf-8")
+            save(Path(path), write_record(self).encode())
 
     def frame(self) -> pandas.DataFrame:
         """The record as a table of pandas: a row for each state and node, in exact units, with time and name."""
@@ -183,7 +186,7 @@ def record_of_blocks(words: Words, corridor: Corridor, clock: Clock, file: str) 
 def write_record(record: Record) -> str:
     """A table of every word of a record, with times and names for people."""
     states, nodes, width = record.states.shape
-    columns = ["state", "id", *COLUMNS[:width], "cost_units", "#time", "#name"]
+    columns = ["state", "id", *COLUMNS[:width], "cost_units", "(time)", "(name)"]
     known = [(node.identifier, node.name) for node in record.corridor.nodes]
     table = []
     for state, rows in enumerate(record.states.tolist()):

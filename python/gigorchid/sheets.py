@@ -4,6 +4,7 @@ from __future__ import annotations
 
 import csv
 import io
+import os
 import re
 from collections.abc import Iterable, Iterator, Mapping
 from dataclasses import dataclass
@@ -15,6 +16,9 @@ from .units import SYMBOLS
 
 _NUMBER = re.compile(r"[0-9]+(\.[0-9]+)?")
 _WHOLE = re.compile(r"[0-9]+")
+
+MOST_NAMES = 32
+"""So many names of columns a message lists."""
 
 
 @dataclass(frozen=True)
@@ -43,9 +47,12 @@ class Fault(Exception):
     """A faulty text file: the cell, and what is wrong there."""
 
     def __init__(self, cell: Cell, wrong: str):
-        super().__init__(f"{cell}: {wrong}")
+        super().__init__(cell, wrong)
         self.cell = cell
         self.wrong = wrong
+
+    def __str__(self) -> str:
+        return f"{self.cell}: {self.wrong}"
 
 
 def expected(cell: Cell, what: str) -> Fault:
@@ -78,15 +85,14 @@ class Sheet:
         if not lines:
             raise Fault(Cell(name), "empty: expected a line that names the columns")
         header, rows = lines[0], lines[1:]
-        if len(header.cells) == 1 and ";" in header.cells[0]:
-            raise Fault(Cell(name, header.line), "cells are separated by semicolons: expected commas")
+        _test_separator(header, name)
         sheet = cls(name, header.line, [cell.strip() for cell in header.cells], rows)
         sheet._test_shape()
         return sheet
 
     def _test_shape(self) -> None:
         for place, column in enumerate(self.columns):
-            if column and not column.startswith("#") and column in self.columns[:place]:
+            if is_read(column) and column in self.columns[:place]:
                 raise Fault(self.heading(place), "a column of this name stands before it")
         for row in self.rows:
             if len(row.cells) != len(self.columns):
@@ -110,7 +116,7 @@ class Sheet:
 
     def read_columns(self) -> Iterator[tuple[int, str]]:
         """Places and names of the columns that are read."""
-        return ((place, name) for place, name in enumerate(self.columns) if name and not name.startswith("#"))
+        return ((place, name) for place, name in enumerate(self.columns) if is_read(name))
 
     def parted(self, plain: Iterable[str], quantities: Mapping[str, tuple[str, ...]]) -> dict[str, tuple[int, str]]:
         """Place and ending of each column, by its name without the ending; those of `plain` have no ending."""
@@ -121,7 +127,7 @@ class Sheet:
             if name in plain:
                 stem, ending = name, ""
             elif stem not in quantities or ending not in quantities[stem]:
-                raise Fault(self.heading(place), f"unknown column: expected {_known(stem, plain, quantities)}")
+                raise Fault(self.heading(place), f"unknown column: expected {_known(name, plain, quantities)}")
             if stem in found:
                 first = self.columns[found[stem][0]]
                 raise Fault(self.heading(place), f"{stem} is given twice, by {first} too: expected one of them")
@@ -136,11 +142,28 @@ class Sheet:
                 raise Fault(Cell(self.name, self.header_line), f"a column is missing: expected {wanted}")
 
 
-def _known(stem: str, plain: tuple[str, ...], quantities: Mapping[str, tuple[str, ...]]) -> str:
-    if stem in quantities:
-        return _either([f"{stem}_{ending}" for ending in quantities[stem]])
-    names = list(plain) + [f"{name}_{'|'.join(endings)}" for name, endings in quantities.items()]
-    return "one of " + ", ".join(names)
+def is_read(column: str) -> bool:
+    """Whether a column counts: one without a name, or whose name begins with # or stands in parentheses, does not."""
+    return column != "" and not column.startswith("#") and not (column.startswith("(") and column.endswith(")"))
+
+
+def _test_separator(header: Row, name: str) -> None:
+    """Faults a table whose cells are not separated by commas."""
+    separators = {";": "semicolons", "\t": "tabs"}
+    told = next((word for sign, word in separators.items() if sign in header.cells[0]), None)
+    if len(header.cells) == 1 and told is not None:
+        raise Fault(Cell(name, header.line), f"cells are separated by {told}: expected commas")
+    if header.cells[0].startswith("sep="):
+        raise Fault(Cell(name, header.line), f"{','.join(header.cells)}: expected the line that names the columns")
+
+
+def _known(name: str, plain: tuple[str, ...], quantities: Mapping[str, tuple[str, ...]]) -> str:
+    stem = name.rpartition("_")[0]
+    for meant in (stem, name):
+        if meant in quantities:
+            return _either([f"{meant}_{ending}" for ending in quantities[meant]])
+    names = list(plain) + [f"{each}_{ending}" for each, endings in quantities.items() for ending in endings]
+    return "one of " + ", ".join(names[:MOST_NAMES]) + (" and so on" if len(names) > MOST_NAMES else "")
 
 
 def _either(names: list[str]) -> str:
@@ -164,7 +187,8 @@ def _lines(path: Path, name: str) -> Iterator[Row]:
                 yield Row(source.first, cells)
             source.begin()
     except csv.Error as error:
-        raise Fault(Cell(name, source.first), f"no CSV: {error}") from None
+        why = "a quotation mark is not closed" if "end of data" in str(error) else str(error)
+        raise Fault(Cell(name, source.first), f"no CSV: {why}") from None
 
 
 class _WithoutComments:
@@ -191,26 +215,27 @@ class _WithoutComments:
         return "\n" if comment else line
 
 
-def number(cell: Cell, symbol: str = "") -> Fraction:
-    """The figure in a cell."""
+def number(cell: Cell, symbol: str = "", named: str = "") -> Fraction:
+    """The figure in a cell; a word that the cell may also hold is said in the message."""
     if _NUMBER.fullmatch(cell.text) is None:
-        in_unit = f" in {symbol}" if symbol else ""
-        raise expected(cell, f"a number of 0 or more{in_unit}, such as 7900 or 7900.5, without sign or separators")
+        in_unit, word = f" in {symbol}" if symbol else "", f", or {named}" if named else ""
+        form = "such as 7900 or 7900.5, without sign or separators"
+        raise expected(cell, f"a number of 0 or more{in_unit}, {form}{word}")
     return Fraction(cell.text)
 
 
-def whole_number(cell: Cell, most: int, what: str = "a whole number") -> int:
+def whole_number(cell: Cell, most: int, what: str = "a whole number", named: str = "") -> int:
     """The whole number in a cell."""
     if _WHOLE.fullmatch(cell.text) is None or int(cell.text) > most:
-        raise expected(cell, f"{what} of 0 to {most:,}")
+        raise expected(cell, f"{what} of 0 to {most:,}" + (f", or {named}" if named else ""))
     return int(cell.text)
 
 
-def figure(cell: Cell, ending: str, most: int) -> Fraction:
+def figure(cell: Cell, ending: str, most: int, named: str = "") -> Fraction:
     """The figure in a cell whose column has this ending: a word as it is, or a number in that unit."""
     if ending == "units":
-        return Fraction(whole_number(cell, most))
-    return number(cell, SYMBOLS[ending])
+        return Fraction(whole_number(cell, most, named=named))
+    return number(cell, SYMBOLS[ending], named)
 
 
 def time_of(cell: Cell) -> Fraction:
@@ -227,6 +252,16 @@ def state_of(cell: Cell, clock: Clock) -> int:
     if states.denominator != 1 and 0 < states < clock.steps:
         raise expected(cell, f"the start of a step, {clock.neighbours(time_of(cell))}")
     return int(states // 1)
+
+
+def save(path: Path, content: bytes) -> None:
+    """Writes a file whole or not at all: what was there stays until the new one is complete."""
+    beside = path.with_name(f".{path.name}.{os.getpid()}.part")
+    try:
+        beside.write_bytes(content)
+        os.replace(beside, path)
+    finally:
+        beside.unlink(missing_ok=True)
 
 
 def written(columns: list[str], rows: Iterable[Iterable[object]], comments: Iterable[str] = ()) -> str:

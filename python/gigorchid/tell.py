@@ -17,7 +17,7 @@ from .layout import Words
 from .corridor import NO_LIMIT
 from .refusals import Refusal
 from .sheets import Cell
-from .sizes import BLOCK_BYTES, KINDS, MOST_LINKS, MOST_STEPS, file_bytes, file_kind, list_words
+from .sizes import BLOCK_BYTES, GREATEST_WORD, KINDS, MOST_LINKS, MOST_STEPS, file_bytes, file_kind, list_words
 from .units import ONE, SYMBOLS, UNITS_PER_VEHICLE, decimal, factor, tidy, told_apart
 
 if TYPE_CHECKING:
@@ -73,10 +73,10 @@ def of_record(refusal: Refusal, project: Project, record: Record) -> Told:
     """A refusal of a call that was given a record."""
     if refusal.number <= 5:
         return _of_lists(refusal, project)
-    if refusal.number == 13:
-        wrong = f"the cost is {record.cost:,}, which is not the sum of all vehicles and queues over states 1 to {project.steps:,}"
-        return Told(refusal, wrong, [record.cost_cell])
     return _RECORD[refusal.number](refusal, project, record)
+
+
+_ARTICLES = {"corridor": "a corridor", "demands": "demands", "record": "a record", "plan": "a plan"}
 
 
 def of_file(refusal: Refusal, file: str, place: str, content: bytes, links: int, steps: int) -> Told:
@@ -87,13 +87,15 @@ def of_file(refusal: Refusal, file: str, place: str, content: bytes, links: int,
     sentences = {
         1: f"{links:,} links and {steps:,} steps: a file has 1 to {MOST_LINKS} links and 1 to {MOST_STEPS:,} steps, and its own",
         15: f"{block} has a wrong check word: it was changed after it was written",
-        16: f"{block} is of kind {found:,}: expected {kinds}, a {place}",
+        16: f"{block} is of kind {found:,}: expected {kinds}, {_ARTICLES[place]}",
         17: f"{block} has the number of another block",
         18: f"{block} has words after the end of the list that are not zero",
     }
     if refusal.number == 14:
         wanted = file_bytes(list_words(place, file_kind(place, content), links, steps))
-        sentences[14] = f"{len(content):,} bytes: a {place} of {links} links and {steps:,} steps has {wanted:,}"
+        sentences[
+            14
+        ] = f"{len(content):,} bytes: {_ARTICLES[place]} of {links} links and {steps:,} steps: expected {wanted:,}"
     return Told(refusal, sentences[refusal.number], [Cell(file)])
 
 
@@ -173,13 +175,17 @@ def _ask_demands(project: Project) -> Ask:
 
 
 def _sizes(refusal: Refusal, project: Project) -> Told:
-    """1: of a project's own lists only N or K can be at fault, since their lengths are made from them."""
+    """1: N or K of the project; else what was given beside it, a step, a node, or a list of another project."""
     one_step = np.concatenate([[1], np.zeros(2 * (project.links + 1))]).astype(np.uint32)
     plan = np.zeros(2 * (project.links + 1), dtype=np.uint32)
     if _refuses(lambda words: calls.simulate_words(words, one_step, plan), project.corridor.words, refusal):
         wrong = f"{len(project.corridor.nodes)} nodes are {project.links} links: a corridor has 1 to {MOST_LINKS}"
         return Told(refusal, wrong, [project.corridor.nodes[-1].cell])
-    return Told(refusal, f"{project.steps:,} steps: a project has 1 to {MOST_STEPS:,}", [project.steps_cell])
+    if _refuses(_ask_demands(project), project.demands.words, refusal):
+        wrong = f"{project.steps:,} steps: a project has 1 to {MOST_STEPS:,}"
+        return Told(refusal, wrong, [project.steps_cell])
+    wrong = f"a step that is not below {project.steps:,}, a node above {project.links}, or a plan or record of another project"
+    return Told(refusal, wrong)
 
 
 def _node_fault(refusal: Refusal, project: Project, sound: dict[int, int]) -> list[int]:
@@ -211,8 +217,10 @@ def _link(refusal: Refusal, project: Project) -> Told:
     sound = {layout.CAPACITY: ONE, layout.FULL_SPEED: ONE, layout.WAVE_SPEED: ONE, layout.JAM: ONE}
     sound |= {layout.DROPPED_CAPACITY: 0, layout.DROP_DENSITY: 0}
     fault = _node_fault(refusal, project, sound if node else dict.fromkeys(sound, 0))
-    cells = [corridor.cell(node, place) for place in fault]
-    return Told(refusal, _link_sentence(project, node, fault[-1]), cells[-1:] + cells[:-1])
+    speeds = [place for place in fault if place in (layout.FULL_SPEED, layout.WAVE_SPEED)]
+    worst = max(speeds, key=lambda place: corridor.word(node, place)) if speeds else fault[-1]
+    places = [worst] + [place for place in fault if place != worst]
+    return Told(refusal, _link_sentence(project, node, worst), [corridor.cell(node, place) for place in places])
 
 
 def _link_sentence(project: Project, node: int, place: int) -> str:
@@ -229,9 +237,11 @@ def _link_sentence(project: Project, node: int, place: int) -> str:
         return f"the dropped capacity {given} on the link to {label} is above its capacity"
     if place == layout.DROP_DENSITY and word <= ONE:
         return f"the drop density {given} on the link to {label} is above its jam density"
+    held = tidy(decimal(vehicles(word), 1))
     if place in (layout.JAM, layout.DROP_DENSITY):
-        return f"{given} on the link to {label}: it would hold {tidy(decimal(vehicles(word), 1))} vehicles, and may hold 1,024; cut it in two"
-    return f"{given} on the link to {label}: {tidy(decimal(vehicles(word), 1))} vehicles per step, and it may be 1,024; take shorter steps"
+        parts = ceil(Fraction(word, ONE))
+        return f"{given} on the link to {label}: it would hold {held} vehicles, and may hold 1,024; cut it into {parts}"
+    return f"{given} on the link to {label}: {held} vehicles per step, and it may be 1,024; take shorter steps"
 
 
 def _too_fast(project: Project, node: int, place: int, given: str) -> str:
@@ -326,7 +336,9 @@ def _bounds(refusal: Refusal, project: Project, plan: Plan) -> Told:
     suspects = [Suspect([base + place], 0) for place in (layout.RATE, layout.LIMIT)]
     place = _at_fault(refusal, plan.words, suspects, _ask_plan(project))[0]
     label, time, word = project.corridor.nodes[node].label, project.clock.at(step), int(plan.words[base + place])
-    if place == layout.RATE:
+    if place == layout.RATE and not project.corridor.word(node, layout.RAMP_CAPACITY):
+        sentence = f"at {time} a rate at {label}: it has no on-ramp to meter"
+    elif place == layout.RATE:
         rate, most = _both(word, project.corridor.word(node, layout.RAMP_CAPACITY), factor("vph", project.clock.step))
         sentence = f"at {time} the rate of {label} is {rate} veh/h, and its ramp's capacity {most} veh/h"
     elif node == 0:
@@ -334,7 +346,7 @@ def _bounds(refusal: Refusal, project: Project, plan: Plan) -> Told:
     else:
         limit, most = _both_speeds(word, project.corridor.word(node, layout.FULL_SPEED), node, project)
         sentence = f"at {time} the limit on the link to {label} is {limit}, and its full speed {most}"
-    return Told(refusal, f"{sentence} ({word:,} units)", [plan.cell(step, node, place)])
+    return Told(refusal, sentence, [plan.cell(step, node, place)])
 
 
 def _ask_plan(project: Project) -> Ask:
@@ -347,19 +359,38 @@ def _both(one: int, other: int, scale: Fraction) -> tuple[str, str]:
 
 
 def _both_speeds(one: int, other: int, node: int, project: Project) -> tuple[str, str]:
-    length = project.corridor.nodes[node].length
-    if length is None:
+    speeds = [project.corridor.speed(word, node, project.clock.step) for word in (one, other)]
+    if speeds[0] is None or speeds[1] is None:
         return f"{one:,} units", f"{other:,} units"
-    first, second = _both(one, other, factor("kmh", project.clock.step, length))
-    return f"{first} km/h", f"{second} km/h"
+    first, second = told_apart(speeds[0], speeds[1])
+    symbol = SYMBOLS[project.corridor.speeds]
+    return f"{first} {symbol}", f"{second} {symbol}"
 
 
 def _overflow_of_plan(refusal: Refusal, project: Project, plan: Plan) -> Told:
-    """12 of a plan: the first queue that passes its limit, and the rest as the simulated record shows them."""
+    """12 of a plan: the first queue that passes its limit, the row that meters the ramp, and the rest as the record shows them."""
     queues = layout.record_states(refusal.work, project.links, project.steps)[:, :, layout.QUEUE]
-    cell = plan.cell(refusal.row, refusal.node, layout.RATE) or project.corridor.cell(refusal.node, layout.QUEUE_LIMIT)
-    first = int(queues[refusal.row + 1, refusal.node])
-    return Told(refusal, _overflow(refusal, project, first), [cell], overflows(queues, project))
+    sentence = _overflow(refusal, project, int(queues[refusal.row + 1, refusal.node]))
+    cell = project.corridor.cell(refusal.node, layout.QUEUE_LIMIT)
+    if not project.corridor.word(refusal.node, layout.RAMP_CAPACITY):
+        sentence += "; there is no ramp capacity there"
+    elif _passes_unmetered(refusal, project, plan):
+        sentence += "; it does so unmetered too, held up by the mainline or by its own capacity"
+    else:
+        steps = range(refusal.row, -1, -1)
+        said = (plan.cell(step, refusal.node, layout.RATE) for step in steps)
+        cell = next((each for each in said if each is not None), cell)
+    return Told(refusal, sentence, [cell], overflows(queues, project))
+
+
+def _passes_unmetered(refusal: Refusal, project: Project, plan: Plan) -> bool:
+    """Whether the queue passes its limit then also with the ramp at its capacity all along, the rest of the plan as it is."""
+    words = plan.words.copy()
+    capacity = project.corridor.word(refusal.node, layout.RAMP_CAPACITY)
+    layout.plan_steps(words, project.links, project.steps)[:, refusal.node, layout.RATE] = capacity
+    record = calls.simulate_words(project.corridor.words, project.demands.words, words)
+    queue = layout.record_states(record, project.links, project.steps)[refusal.row + 1, refusal.node, layout.QUEUE]
+    return int(queue) > project.corridor.word(refusal.node, layout.QUEUE_LIMIT)
 
 
 def _overflow(refusal: Refusal, project: Project, queue: int) -> str:
@@ -370,7 +401,7 @@ def _overflow(refusal: Refusal, project: Project, queue: int) -> str:
 
 
 def overflows(queues: Words, project: Project) -> list[str]:
-    """A sentence for each ramp whose queue passes its limit: when first and last, and the most."""
+    """A sentence for each ramp whose queue passes its limit: when first and last, how long in all, and the most."""
     told = []
     for node, known in enumerate(project.corridor.nodes):
         limit = project.corridor.word(node, layout.QUEUE_LIMIT)
@@ -379,8 +410,10 @@ def overflows(queues: Words, project: Project) -> list[str]:
             most = int(queues[:, node].argmax())
             reached, allowed = told_apart(vehicles(int(queues[most, node])), vehicles(limit))
             first, last, when = (project.clock.at(int(state)) for state in (above[0], above[-1], most))
+            minutes = tidy(decimal(len(above) * project.clock.step / 60, 1))
             told.append(
-                f"{known.label}: above its limit of {allowed} vehicles in {len(above):,} states from {first} to {last}, most {reached} at {when}"
+                f"{known.label}: above its limit of {allowed} vehicles from {first} to {last}, {minutes} min in all; "
+                f"most {reached} at {when}"
             )
     return told
 
@@ -499,6 +532,15 @@ def _overflow_of_record(refusal: Refusal, project: Project, record: Record) -> T
     return Told(refusal, _overflow(refusal, project, queue), [cell], overflows(record.queues, project))
 
 
+def _cost(refusal: Refusal, project: Project, record: Record) -> Told:
+    """13: a wrong cost, beside the one that the library accepts."""
+    total = int(record.vehicles[1:].sum(dtype=np.uint64)) + int(record.queues[1:].sum(dtype=np.uint64))
+    words = record.words.copy()
+    words[-2:] = total & GREATEST_WORD, total >> 32
+    accepted = f", and the library accepts {total:,}" if not _refuses(_ask_record(project), words, refusal) else ""
+    return Told(refusal, f"the cost is {record.cost:,}{accepted}", [record.cost_cell])
+
+
 _RECORD: dict[int, Callable[[Refusal, Project, Record], Told]] = {
     7: _fixed,
     8: _sending,
@@ -506,4 +548,5 @@ _RECORD: dict[int, Callable[[Refusal, Project, Record], Told]] = {
     10: _ramp_flow,
     11: _next_state,
     12: _overflow_of_record,
+    13: _cost,
 }

@@ -20,9 +20,9 @@ PER_LINK = ("kmh", "mph", "vpkm")
 SYMBOLS = {
     "vph": "veh/h",
     "kmh": "km/h",
-    "mph": "mi/h",
+    "mph": "mph",
     "m": "m",
-    "veh": "vehicles",
+    "veh": "veh",
     "vpkm": "veh/km",
     "pct": "%",
     "units": "units",

@@ -55,6 +55,11 @@ id,from,until,rate_vph,limit_kmh
 """,
 }
 
+HEADINGS = str(VALLEY["corridor.csv"]).partition("\n")[0].split(",")
+MILL_ROAD = "20,Mill Road,500,4500,90,18,200,900,25,20,2,,"
+FIRST_RATE = "20,07:00,07:00:20,450,"
+"""The columns of the valley road's corridor, the row of its ramp, and the first row of its plan."""
+
 B: Files = {
     "project.toml": """\
 title = "Corridor B"
@@ -99,6 +104,11 @@ state,id,vehicles_units,queue_units,flow_units,ramp_flow_units,exit_flow_units,c
 1,30,200,0,0,0,0,370
 """,
 }
+
+
+def unread(name: str) -> str:
+    """The name of a column that is there for people and is not read."""
+    return f"#{name}"
 
 
 def changed(files: Files, *edits: Edit) -> Files:

@@ -3,6 +3,9 @@
 from __future__ import annotations
 
 import json
+import os
+import subprocess
+import sys
 from pathlib import Path
 
 import pytest
@@ -61,31 +64,96 @@ def test_what_goes_to_standard_output_can_be_read_again(tmp_path: Path) -> None:
 def test_json_and_a_table_do_not_share_standard_output(tmp_path: Path) -> None:
     golden.prepare(tmp_path)
     done = golden.run(tmp_path, "normal demo peak --json -o -".split())
-    assert (done.returncode, done.stdout) == (64, "")
-    assert "--json and -o -" in done.stderr
+    assert (done.returncode, done.stderr) == (64, "")
+    assert json.loads(done.stdout)["error"] == "--json and -o - both want standard output"
 
 
-def test_a_reader_that_goes_away_is_no_failure(tmp_path: Path) -> None:
-    import subprocess
-    import sys
+@pytest.fixture(scope="module")
+def prepared(tmp_path_factory: pytest.TempPathFactory) -> Path:
+    folder = tmp_path_factory.mktemp("prepared")
+    golden.prepare(folder)
+    return folder
 
-    golden.prepare(tmp_path)
-    program = [
-        sys.executable,
-        "-c",
-        "from gigorchid.commands import main; main()",
-        "simulate",
-        "demo",
-        "peak",
-        "-o",
-        "-",
-    ]
-    variables = {"PYTHONPATH": str(golden.ROOT / "python"), "PYTHONDONTWRITEBYTECODE": "1"}
-    with subprocess.Popen(
-        program, cwd=tmp_path, env=variables, stdout=subprocess.PIPE, stderr=subprocess.PIPE
-    ) as child:
-        assert child.stdout is not None and child.stderr is not None
-        child.stdout.readline()
-        child.stdout.close()
-        said = child.stderr.read().decode()
-    assert "Traceback" not in said and "BrokenPipe" not in said
+
+def shell(folder: Path, line: str, **variables: str) -> subprocess.CompletedProcess[str]:
+    """Runs a line of bash in which `gigorchid` is the command of the sources."""
+    known = {"PATH": os.environ["PATH"], "PYTHONPATH": str(golden.ROOT / "python"), "PYTHONDONTWRITEBYTECODE": "1"}
+    program = f"gigorchid() {{ {sys.executable} -c 'from gigorchid.commands import main; main()' \"$@\"; }}; {line}"
+    return subprocess.run(["bash", "-c", program], cwd=folder, env=known | variables, capture_output=True, text=True)
+
+
+def test_a_reader_that_goes_away_ends_the_command_as_any_other(prepared: Path) -> None:
+    done = shell(prepared, "gigorchid simulate demo peak -o - | head -n 1; echo ${PIPESTATUS[0]}")
+    assert done.stdout.splitlines()[-1] == "141"
+    assert done.stdout.startswith("state,id,") and "Traceback" not in done.stderr
+
+
+@pytest.mark.parametrize("arguments", ["simulate demo peak -o -", "simulate demo peak", "lint demo --json"])
+def test_standard_output_that_takes_nothing_is_told(prepared: Path, arguments: str) -> None:
+    done = shell(prepared, f"gigorchid {arguments} > /dev/full")
+    assert (done.returncode, done.stderr.count("Traceback")) == (64, 0)
+    assert "standard output cannot be written: No space left on device" in done.stderr
+
+
+def test_standard_output_that_is_closed_is_told_by_the_status(prepared: Path) -> None:
+    assert shell(prepared, "gigorchid simulate demo peak >&-").returncode == 64
+
+
+def test_a_locale_without_the_letters_is_no_failure(prepared: Path) -> None:
+    text = (prepared / "demo" / "corridor.csv").read_text().replace("Powell", "Straße")
+    (prepared / "letters").mkdir()
+    for file in (prepared / "demo").glob("*.*"):
+        (prepared / "letters" / file.name).write_bytes(file.read_bytes())
+    (prepared / "letters" / "corridor.csv").write_text(text)
+    done = shell(prepared, "gigorchid simulate letters peak", PYTHONIOENCODING="ascii")
+    assert done.returncode == 0 and "Stra?e (1020)" in done.stdout
+    table = shell(prepared, "gigorchid simulate letters peak -o - | grep -c Straße", PYTHONIOENCODING="ascii")
+    assert table.stdout == "1081\n"
+
+
+@pytest.mark.parametrize("name", ["corridor.csv", "project.toml", "plan-open.csv", "arrivals.csv"])
+def test_no_file_of_the_project_is_written_over(prepared: Path, name: str) -> None:
+    before = (prepared / "demo" / name).read_bytes()
+    done = golden.run(prepared, ["simulate", "demo", "peak", "-o", f"demo/{name}"])
+    assert done.returncode == 64 and (prepared / "demo" / name).read_bytes() == before
+
+
+def test_a_file_that_cannot_be_written_whole_stays_as_it_was(prepared: Path) -> None:
+    (prepared / "kept.csv").write_text("kept")
+    done = shell(prepared, "ulimit -f 8; gigorchid simulate demo peak -o kept.csv")
+    assert done.returncode != 0 and (prepared / "kept.csv").read_text() == "kept"
+
+
+@pytest.mark.parametrize(
+    "command", ["simulate demo outside.csv", "normal demo outside.csv", "compare demo:peak outside.csv"]
+)
+def test_rows_of_a_plan_that_say_nothing_are_told(prepared: Path, command: str) -> None:
+    (prepared / "outside.csv").write_text("id,from,until,rate_vph,limit_kmh\n1380,4:30,5:15,100,\n")
+    done = golden.run(prepared, command.split())
+    assert "warning: outside.csv:2: this row says nothing of the steps from 06:00:00 to 09:00:00\n" in done.stdout
+
+
+def test_a_place_that_the_project_does_not_have_is_not_explained(prepared: Path) -> None:
+    for place in ("--row 1080 --node 1", "--row 0 --node 14"):
+        assert golden.run(prepared, f"explain 12 {place} --project demo".split()).returncode == 64
+    assert golden.run(prepared, "explain 12 --row 1079 --node 13 --project demo".split()).returncode == 0
+
+
+def test_unpack_tells_which_file_is_wanted_and_which_is_damaged(prepared: Path) -> None:
+    assert golden.run(prepared, "pack demo --into blocks".split()).returncode == 0
+    forgotten = golden.run(prepared, "unpack blocks/demands.blocks --into tables --step 10".split())
+    assert forgotten.returncode == 64
+    assert "no files of the corridor among blocks/demands.blocks (demands): one is wanted" in forgotten.stderr
+    content = bytearray((prepared / "blocks" / "corridor.blocks").read_bytes())
+    content[0] = 7
+    (prepared / "blocks" / "corridor.blocks").write_bytes(content)
+    damaged = golden.run(
+        prepared, "unpack blocks/corridor.blocks blocks/demands.blocks --into tables --step 10".split()
+    )
+    assert damaged.returncode == 2 and damaged.stderr.startswith("blocks/corridor.blocks: ")
+
+
+def test_unpack_takes_names_only_from_a_project_that_knows_the_nodes(prepared: Path) -> None:
+    files = [str(golden.ROOT / "examples" / "b" / name) for name in ("corridor.blocks", "demands.blocks")]
+    done = golden.run(prepared, ["unpack", *files, "--into", "b", "--like", "demo"])
+    assert done.returncode == 64 and "none of these identifiers" in done.stderr

@@ -82,7 +82,7 @@ def test_an_inserted_link_is_told_by_identifier() -> None:
     assert all(each.columns == [] for each in found.shared)
     bridge = found.shared[2]
     queues = found.a.record.flows[:, 2] != found.b.record.flows[:, 3]
-    assert bridge.firsts["mainline flow"] == int(np.flatnonzero(queues)[0])
+    assert bridge.firsts["flow"] == int(np.flatnonzero(queues)[0])
     assert (bridge.firsts["rate"], bridge.firsts["arrivals"]) == (None, None)
 
 
@@ -106,3 +106,21 @@ def test_other_arrivals_are_not_comparable() -> None:
     found = compared(VALLEY, "open", other, "open")
     assert (found.verdict, found.reasons) == (NOT_COMPARABLE, ["what arrives or leaves differs"])
     assert [each.firsts["arrivals"] for each in found.shared] == [None, 3, None, None]
+
+
+def test_what_was_written_tells_how_corridors_differ() -> None:
+    """A shorter link has other words for the same speeds and densities: its length is what differs."""
+    shorter = changed(VALLEY, ("corridor.csv", "30,Bridge,600,", "30,Bridge,550,"))
+    found = compared(VALLEY, "metered", shorter, "metered")
+    assert [each.columns for each in found.shared] == [[], [], ["length"], []]
+    assert [each.firsts["limit"] for each in found.shared] == [None, None, None, None]
+
+
+def test_another_limit_on_another_road_is_told() -> None:
+    slower = changed(
+        VALLEY,
+        ("corridor.csv", "40,Harbour,500,", "40,Harbour,450,"),
+        ("plan-metered.csv", "30,07:00:30,,,72", "30,07:00:30,,,60"),
+    )
+    found = compared(VALLEY, "metered", slower, "metered")
+    assert [each.firsts["limit"] for each in found.shared] == [None, None, 3, None]

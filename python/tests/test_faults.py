@@ -7,7 +7,21 @@ from collections.abc import Iterable
 from typing import NamedTuple
 
 import pytest
-from projects import VALLEY, B, Edit, Files, answer, changed, folder_of, read_all, run
+from projects import (
+    FIRST_RATE,
+    HEADINGS,
+    MILL_ROAD,
+    VALLEY,
+    B,
+    Edit,
+    Files,
+    answer,
+    changed,
+    folder_of,
+    read_all,
+    run,
+    unread,
+)
 
 from gigorchid import Fault
 from gigorchid.commands import main
@@ -47,9 +61,6 @@ def whole(file: str, text: str | bytes, place: Place, said: str) -> Case:
 
 
 # ---- numbers and words ----
-
-MILL_ROAD = "20,Mill Road,500,4500,90,18,200,900,25,20,2,,"
-BRIDGE = "30,Bridge,600,4500,90,18,200,,,15,,3600,60"
 
 NUMBER = r"expected a number.* in veh/h"
 # What looks like a number to a reader is told how a number is written.
@@ -113,7 +124,6 @@ GREAT = {
 # ---- the corridor ----
 
 NEEDED_COLUMNS = ("capacity", "free_speed", "wave_speed", "jam_density", "ramp_capacity", "queue_limit")
-HEADINGS = str(VALLEY["corridor.csv"]).partition("\n")[0].split(",")
 
 
 def heading(stem: str) -> str:
@@ -132,12 +142,15 @@ CORRIDOR = {
     ),
     "a wrong ending": of(
         "corridor.csv",
-        relabelled("capacity", "capacity_kmh"),
-        (1, "capacity_kmh", "capacity_kmh"),
-        r"expected capacity_vph or capacity_units",
+        relabelled("start_queue", "start_queue_vph"),
+        (1, "start_queue_vph", "start_queue_vph"),
+        r"expected start_queue_veh or start_queue_units",
     ),
     "no ending": of(
-        "corridor.csv", relabelled("capacity", "capacity"), (1, "capacity", "capacity"), r"unknown column.*capacity_vph"
+        "corridor.csv",
+        relabelled("start_queue", "start_queue"),
+        (1, "start_queue", "start_queue"),
+        r"unknown column.* start_queue(_| with _)veh",
     ),
     "a column twice": of(
         "corridor.csv",
@@ -151,9 +164,11 @@ CORRIDOR = {
         (1, "start_queue_veh", "start_queue_veh"),
         r"start_queue_units.*expected one",
     ),
-    "no identifiers": of("corridor.csv", [("id,name", "name,#id")], (1, None, ""), r"column is missing: expected id"),
+    "no identifiers": of(
+        "corridor.csv", [("id,name", f"name,{unread('id')}")], (1, None, ""), r"column is missing: expected id"
+    ),
     "one column of the drop": of(
-        "corridor.csv", [("drop_density_vpkm", "#drop_density")], (1, None, ""), r"drop.*expected both or none"
+        "corridor.csv", [("drop_density_vpkm", unread("density"))], (1, None, ""), r"drop.*expected both or none"
     ),
     "a blank identifier": of("corridor.csv", [("20,Mill", ",Mill")], (3, "id", ""), r"blank: expected an identifier"),
     "an identifier in letters": of(
@@ -210,7 +225,7 @@ CORRIDOR = {
 CORRIDOR |= {
     f"no column of the {stem}": of(
         "corridor.csv",
-        relabelled(stem, "#other"),
+        relabelled(stem, unread("other")),
         (1, None, ""),
         rf"column is missing: expected {heading(stem)}.* or {stem}_units",
     )
@@ -243,6 +258,13 @@ CORRIDOR |= {
         ("free_speed_mph", "90", relabelled("free_speed", "free_speed_mph")),
         ("wave_speed_kmh", "18", WITHOUT_A_LENGTH[:1]),
         ("jam_density_vpkm", "200", WITHOUT_A_LENGTH),
+    )
+}
+CORRIDOR |= {
+    f"{column} at the entry": of("corridor.csv", [("10,Entry,,,,,", row)], (2, column, text), r"expected blank.*entry")
+    for column, text, row in (
+        ("free_speed_kmh", "90", "10,Entry,,,90,,"),
+        ("jam_density_vpkm", "200", "10,Entry,,,,,200"),
     )
 }
 CORRIDOR["a length of zero"] = of(
@@ -278,10 +300,10 @@ SERIES = {
     "a blank time": of("arrivals.csv", [("07:00:30", "")], (3, "from", ""), r"blank: expected a time of day such as"),
     "no times": whole("arrivals.csv", "10_vph\n3600\n", (1, None, ""), r"column is missing: expected from"),
     "an unknown identifier": of(
-        "arrivals.csv", [("20_vph", "25_vph")], (1, "25_vph", "25_vph"), r"unknown column.*20_vph"
+        "arrivals.csv", [("20_vph", "25_vph")], (1, "25_vph", "25_vph"), r"unknown column.* 20(_| with _)vph"
     ),
     "an identifier without an ending": of(
-        "arrivals.csv", [("20_vph", "20")], (1, "20", "20"), r"unknown column.*20_vph"
+        "arrivals.csv", [("20_vph", "20")], (1, "20", "20"), r"unknown column.* 20(_| with _)vph"
     ),
     "arrivals in percent": of(
         "arrivals.csv", [("20_vph", "20_pct")], (1, "20_pct", "20_pct"), r"expected 20_vph or 20_units"
@@ -323,9 +345,8 @@ SERIES |= {
 
 # ---- plans ----
 
-FIRST = "20,07:00,07:00:20,450,"
 PLANS = {
-    name: of("plan-metered.csv", [(FIRST, row)], place, said)
+    name: of("plan-metered.csv", [(FIRST_RATE, row)], place, said)
     for name, row, place, said in (
         (
             "an unknown identifier",
@@ -369,7 +390,7 @@ PLANS = {
     )
 }
 NO_LENGTHS: list[Edit] = [
-    ("corridor.csv", "length_m", "#length"),
+    ("corridor.csv", "length_m", unread("length")),
     ("corridor.csv", "free_speed_kmh", "free_speed_units"),
     ("corridor.csv", "wave_speed_kmh", "wave_speed_units"),
     ("corridor.csv", "jam_density_vpkm", "jam_density_veh"),
@@ -380,7 +401,10 @@ PLANS |= {
         "plan-metered.csv", [], (4, "limit_kmh", "72"), r"expected limit_units.*length_m", NO_LENGTHS
     ),
     "an unknown column": of(
-        "plan-metered.csv", [("rate_vph", "flow_vph")], (1, "flow_vph", "flow_vph"), r"unknown column.*rate_vph"
+        "plan-metered.csv",
+        [("rate_vph", "flow_vph")],
+        (1, "flow_vph", "flow_vph"),
+        r"unknown column.* rate(_| with _)vph",
     ),
     "a wrong ending": of(
         "plan-metered.csv", [("rate_vph", "rate_veh")], (1, "rate_veh", "rate_veh"), r"expected rate_vph or rate_units"
@@ -397,18 +421,18 @@ PLANS |= {
 
 COST = r"expected the total cost.* 18,446,744,073,709,551,615"
 RECORDS = {
-    "a state twice": of(
-        "record.csv", [("1,10,0", "0,20,0")], (5, None, ""), r"line 3 has the same state and id: expected one row"
-    ),
+    name: of("record.csv", [("1,10,0,30,0,0,\n", f"1,10,0,30,0,0,\n{row},0,30,0,0,\n")], place, said)
+    for name, row, place, said in (
+        ("a state twice", "0,20", (6, None, ""), r"line 3 has the same state and id: expected one row"),
+        ("a state past the end", "2,10", (6, "state", "2"), r"expected a state of 0 to 1"),
+        ("a state in words", "last,10", (6, "state", "last"), r"expected a state of 0 to 1"),
+        ("an unknown identifier", "1,11", (6, "id", "11"), r"expected an identifier of the corridor"),
+        ("a blank identifier", "1,", (6, "id", ""), r"expected an identifier of the corridor"),
+    )
+}
+RECORDS |= {
     "a state that is missing": of(
         "record.csv", [("1,10,0,30,0,0,\n", "")], (None, None, ""), r"no row of state 1 .*Entry.*expected one"
-    ),
-    "a state past the end": of("record.csv", [("1,10,0", "2,10,0")], (5, "state", "2"), r"expected a state of 0 to 1"),
-    "a state in words": of(
-        "record.csv", [("1,10,0", "last,10,0")], (5, "state", "last"), r"expected a state of 0 to 1"
-    ),
-    "an unknown identifier": of(
-        "record.csv", [("1,10,0", "1,11,0")], (5, "id", "11"), r"expected an identifier of the corridor"
     ),
     "a blank word": of(
         "record.csv", [("1,20,120", "1,20,")], (6, "vehicles_units", ""), r"blank: expected a whole number"
@@ -423,13 +447,13 @@ RECORDS = {
         r"expected blank.*last state and node",
     ),
     "an unknown column": of(
-        "record.csv", [(",flow_units", ",flow_vph")], (1, "flow_vph", "flow_vph"), r"unknown column.*\bflow_units"
+        "exits.csv", [("exit_flow_units", "exits")], (1, "exits", "exits"), r"unknown column.*exit_flow_units"
     ),
     "no column of the cost": of(
-        "record.csv", [("cost_units", "#cost")], (1, None, ""), r"column is missing: expected cost_units"
+        "record.csv", [("cost_units", unread("cost"))], (1, None, ""), r"column is missing: expected cost_units"
     ),
     "no column of flows": of(
-        "record.csv", [(",flow_units", ",#flow")], (1, None, ""), r"column is missing: expected flow_units"
+        "record.csv", [(",flow_units", f",{unread('flow')}")], (1, None, ""), r"column is missing: expected flow_units"
     ),
     "an exit with decimals": of(
         "exits.csv",
@@ -568,7 +592,9 @@ PROJECT["a plan of another form"] = Case(
     (13, "open", "plan-open.txt"),
     r"expected.*\.csv.*\.blocks",
 )
-PROJECT["another encoding"] = whole("project.toml", b'title = "Stra\xdfe"\n', (None, None, ""), r"not UTF-8: expected")
+PROJECT["another encoding"] = whole(
+    "project.toml", str(VALLEY["project.toml"]).encode() + b"# Stra\xdfe\n", (None, None, ""), r"not UTF-8: expected"
+)
 
 GROUPS = {
     "numbers": NUMBERS,

@@ -25,6 +25,7 @@ from projects import (
     plan_words,
     project_words,
     run,
+    unread,
     without,
 )
 
@@ -81,7 +82,6 @@ COLUMNS = [
     for stem, endings in stems.items()
     for ending in endings.split()
 ]
-each_column = pytest.mark.parametrize("file, stem, ending", COLUMNS, ids=map(" ".join, COLUMNS))
 IN_FIELD_UNITS = [column for column in COLUMNS if column[2] != "units"]
 
 figures = st.decimals(0, 20_000, places=3).map("{:f}".format)
@@ -143,7 +143,7 @@ def word_of(file: str, column: str, text: str, step: str, metres: str) -> int:
     return lists["demands"][4 if file == "splits.csv" else 5]
 
 
-@each_column
+@pytest.mark.parametrize("file, stem, ending", COLUMNS, ids=map(" ".join, COLUMNS))
 @steady(25)
 @given(data=st.data(), step=step_lengths, metres=lengths)
 def test_a_figure_becomes_the_nearest_word(
@@ -199,10 +199,8 @@ def node_words(files: Files, node: int) -> dict[str, int]:
 
 
 def test_no_limit_of_a_queue_is_the_greatest() -> None:
-    assert node_words(VALLEY, 0)["queue_limit"] == NO_LIMIT
-    assert node_words(changed(VALLEY, ("corridor.csv", "queue_limit_veh", "queue_limit_units")), 0) == node_words(
-        VALLEY, 0
-    )
+    in_units = changed(VALLEY, ("corridor.csv", "queue_limit_veh", "queue_limit_units"))
+    assert node_words(VALLEY, 0)["queue_limit"] == node_words(in_units, 0)["queue_limit"] == NO_LIMIT
 
 
 def test_a_link_without_figures_of_a_drop_does_not_drop() -> None:
@@ -215,9 +213,8 @@ def test_a_link_without_figures_of_a_drop_does_not_drop() -> None:
 
 def test_the_columns_of_a_drop_make_kind_10_even_where_all_are_blank() -> None:
     blank = changed(VALLEY, ("corridor.csv", "3600,60", ","))
-    left_out = changed(
-        blank, ("corridor.csv", "dropped_capacity", "#dropped_capacity"), ("corridor.csv", "drop_density", "#density")
-    )
+    drops = ("dropped_capacity_vph", "drop_density_vpkm")
+    left_out = changed(blank, *(("corridor.csv", column, unread(column)) for column in drops))
     assert (loaded(blank).corridor.kind, loaded(left_out).corridor.kind) == (10, 1)
     assert node_words(blank, 2) == node_words(left_out, 2) | {"dropped_capacity": 800, "drop_density": 7_680}
 
@@ -239,8 +236,9 @@ def test_what_is_not_there_is_zero() -> None:
         ("10,Entry,,,,,,4500,none,,10,,", "10,Entry,0,0,0,0,0,4500,none,0,10,0,0"),
         ("10,Entry,,,,,,4500,none,,10,,", "10,Entry,,0,,0.0,,4500,none,,10,0,"),
         ("40,Harbour,500,4500,90,18,200,,,11,,,", "40,Harbour,500,4500,90,18,200,0,0,11,0,,"),
+        ("40,Harbour,500,4500,90,18,200,,,11,,,", "40,Harbour,500,4500,90,18,200,,0,11,,,"),
     ],
-    ids=["all of the entry's link", "some of the entry's link", "the end's ramp"],
+    ids=["all of the entry's link", "some of the entry's link", "all of the end's ramp", "some of the end's ramp"],
 )
 def test_what_is_not_there_may_be_written_as_zero(old: str, new: str) -> None:
     assert project_words(changed(VALLEY, ("corridor.csv", old, new))) == project_words(VALLEY)
@@ -347,7 +345,7 @@ def lists(draw: st.DrawFn) -> dict[str, tuple[int, list[int]]]:
 
 
 def through_tables(files: dict[str, bytes], *options: str) -> dict[str, bytes]:
-    """Block files, unpacked into the tables of a project and packed again; `out` is the folder of the tables."""
+    """Block files, unpacked into the tables of a project and packed again."""
     with folder_of(files) as folder:
         status, printed = run(folder, "unpack", *files, "--into", "tables", *options)
         assert status == 0, printed
@@ -482,7 +480,7 @@ FORMS: dict[str, Callable[[str], str | bytes]] = {
     "comments": between_lines("# a remark, with commas,,,\n"),
     "comments with quotes": between_lines('# the "old" plan,"and the new\n'),
     "comments with a quote at the end": between_lines('#,"\n'),
-    "a column that is not read": lambda text: each_line("{},-1")(text).replace("-1", "#note", 1),
+    "a column that is not read": lambda text: each_line("{},-1")(text).replace("-1", unread("note"), 1),
 }
 
 
@@ -495,11 +493,11 @@ def test_a_table_in_another_form_has_the_same_words(form: Callable[[str], str | 
 
 SAME: dict[str, list[Edit]] = {
     "a column that is not read": [
-        ("arrivals.csv", "from,10_vph,20_vph", "from,10_vph,#seen,#seen,20_vph"),
+        ("arrivals.csv", "from,10_vph,20_vph", f"from,10_vph,{unread('seen')},{unread('seen')},20_vph"),
         ("arrivals.csv", "07:00,3600,540", '07:00,3600,wet,"-1,5",540'),
         ("arrivals.csv", "07:00:30,4050,720", "07:00:30,4050,,,720"),
     ],
-    "names left out": [("corridor.csv", "id,name", "id,#name")],
+    "names left out": [("corridor.csv", "id,name", f"id,{unread('name')}")],
     "blank names": [("corridor.csv", "Entry", ""), ("corridor.csv", "Bridge", "")],
     "a name with a comma and quotes": [("corridor.csv", "Mill Road", '"Mill ""Old"" Road, north"')],
     "decimals of zero": [("corridor.csv", "20,Mill Road,500,4500", "20,Mill Road,500.0,4500.000")],
@@ -534,12 +532,14 @@ def test_names_may_have_any_letters() -> None:
 OPEN = [(800, 0), (160, 32_768), (0, 27_307), (0, 32_768)]
 
 
-def rates_of(rows: str, **settings: str) -> list[int]:
-    """The rates of Mill Road by step in a plan with these rows."""
-    edits = [("project.toml", *edit) for edit in settings.items()]
-    files = changed(VALLEY, *[(file, old.replace("_", " "), new) for file, old, new in edits])
-    files["plan-metered.csv"] = f"id,from,until,rate_units\n{rows}"
+def mill_road_rates(files: Files) -> list[int]:
+    """The rates of Mill Road by step in the plan that meters it."""
     return [rate for rate, _ in plan_words(files, "metered")[1::4]]
+
+
+def rates_of(rows: str) -> list[int]:
+    """The rates of Mill Road by step in a plan with these rows."""
+    return mill_road_rates({**VALLEY, "plan-metered.csv": f"id,from,until,rate_units\n{rows}"})
 
 
 TIMES = {
@@ -583,7 +583,7 @@ def test_times_are_exact_after_midnight_and_with_decimals(start: str, step: str,
     files["arrivals.csv"] = f"from,10_units\n00:00,1\n{time},5\n"
     files["plan-metered.csv"] = f"id,from,until,rate_units\n20,{time},,7\n"
     assert demands_of(files)[0][:, 0, 0].tolist() == [1, 1, 5, 5, 5, 5]
-    assert [rate for rate, _ in plan_words(files, "metered")[1::4]] == [900, 900, 7, 7, 7, 7]
+    assert mill_road_rates(files) == [900, 900, 7, 7, 7, 7]
 
 
 @pytest.mark.parametrize(
@@ -671,7 +671,7 @@ def test_two_rows_may_say_different_things_of_one_time() -> None:
     [
         lambda lines: [lines[0], *reversed(lines[1:])],
         lambda lines: [lines[0], *lines[1:][::2], "# the rest", *lines[1:][1::2]],
-        lambda lines: [line + end for line, end in zip(lines, [",#by,", *[",hand,"] * 6])],
+        lambda lines: [line + end for line, end in zip(lines, [f",{unread('by')},", *[",hand,"] * 6])],
     ],
     ids=["reversed", "mixed", "with other columns"],
 )

@@ -66,6 +66,37 @@ def test_the_valley_road_has_no_warning() -> None:
             "30,07:00:30,,,72\n20,05:00,06:00,100,\n",
             "plan-metered.csv:5: this row says nothing of the steps",
         ),
+        ("splits.csv", "07:00,12.5", "07:00,0.5", "splits.csv:2: 20_pct: 0.5 % is little: 5 % is written 5"),
+        (
+            "arrivals.csv",
+            "07:00,3600,540",
+            "07:00,3600,5400",
+            "corridor.csv:3: Mill Road (20): more arrive than its ramp can pass",
+        ),
+        (
+            "corridor.csv",
+            "20,Mill Road,500,4500,",
+            "20,Mill Road,500,45000,",
+            "corridor.csv:3: the capacity of the link to Mill Road (20) is far from the 3,000 veh/h",
+        ),
+        (
+            "corridor.csv",
+            "20,Mill Road,500,4500,",
+            "20,Mill Road,500,450,",
+            "corridor.csv:3: the capacity of the link to Mill Road (20) is far from the 3,000 veh/h",
+        ),
+        (
+            "plan-metered.csv",
+            "20,07:00,07:00:20,450,",
+            "30,07:00,07:00:20,0,",
+            "plan-metered.csv:2: Bridge (30) has no on-ramp to meter",
+        ),
+        (
+            "plan-metered.csv",
+            "30,07:00:30,,,72",
+            "30,07:00:30,,,0",
+            "plan-metered.csv:4: a limit of 0 stops all traffic on the link to Bridge (30)",
+        ),
     ],
 )
 def test_a_warning_for_each_cause(file: str, old: str, new: str, warning: str) -> None:

@@ -11,7 +11,23 @@ from typing import Any, NamedTuple
 import numpy as np
 import pytest
 from conftest import HEADER
-from projects import VALLEY, B, Edit, Files, answer, block_file, block_words, changed, file_of, folder_of, run, seal
+from projects import (
+    FIRST_RATE,
+    HEADINGS,
+    MILL_ROAD,
+    VALLEY,
+    B,
+    Edit,
+    Files,
+    answer,
+    block_file,
+    block_words,
+    changed,
+    file_of,
+    folder_of,
+    run,
+    seal,
+)
 
 REFUSED = 2
 TEXTS = {int(number): text for number, text in re.findall(r'ENTRY\(GIGORCHID_\w+, (\d+), "(.*)"\)', HEADER)}
@@ -35,14 +51,10 @@ class Case(NamedTuple):
 
 # ---- refusals 1 to 4: the corridor ----
 
-MILL_ROAD = "20,Mill Road,500,4500,90,18,200,900,25,20,2,,"
-HEADINGS = str(VALLEY["corridor.csv"]).partition("\n")[0].split(",")
-DEFAULTS = MILL_ROAD.split(",")
-
 
 def mill_road(number: int, told: str, named: str = "", **figures: str) -> Case:
     """A case of the row of Mill Road, in which some figures are others; the cells named are those, or `named`."""
-    row = [figures.get(column, cell) for column, cell in zip(HEADINGS, DEFAULTS)]
+    row = [figures.get(column, cell) for column, cell in zip(HEADINGS, MILL_ROAD.split(","))]
     cells: Cells = [("corridor.csv", 3, column, figures[column]) for column in (named.split() or figures)]
     return Case(number, 0, 1, [("corridor.csv", MILL_ROAD, ",".join(row))], cells, told)
 
@@ -103,7 +115,7 @@ RAMPS = {
     "ramp capacity": mill_road(
         3, r"400000 veh/h at Mill Road \(20\).*1,111\.1 vehicles.*1,024", ramp_capacity_vph="400000"
     ),
-    "queue limit": mill_road(3, r"3000000 vehicles at Mill Road \(20\).*2,097,152.*none", queue_limit_veh="3000000"),
+    "queue limit": mill_road(3, r"3000000 veh at Mill Road \(20\).*2,097,152.*none", queue_limit_veh="3000000"),
     "a ramp at the end": Case(
         3,
         0,
@@ -273,10 +285,17 @@ def bounds(row: int, node: int, edits: list[tuple[str, str]], line: int, column:
     return Case(6, row, node, changes, [("plan-metered.csv", line, column, text)], told, VALLEY, METERED)
 
 
-FIRST = "20,07:00,07:00:20,450,"
+# The units of the setting do not stand behind the figure that it is above, as if they were that one's.
+NOT_ITS = r"(?! \((192|161|32,768) units)"
 BOUNDS = {
     "a rate": bounds(
-        2, 1, [("360", "1080")], 3, "rate_vph", "1080", r"at 07:00:20 .*Mill Road \(20\).* 1,080 veh/h.* 900 veh/h"
+        2,
+        1,
+        [("360", "1080")],
+        3,
+        "rate_vph",
+        "1080",
+        r"at 07:00:20 .*Mill Road \(20\).* 1,080 veh/h.* 900 veh/h" + NOT_ITS,
     ),
     "a rate of one unit too many": bounds(
         2,
@@ -285,27 +304,43 @@ BOUNDS = {
         3,
         "rate_units",
         "161",
-        r"at 07:00:20 .*Mill Road \(20\).* 905\.6 veh/h.* 900 veh/h",
+        r"at 07:00:20 .*Mill Road \(20\).* 905\.6 veh/h.* 900 veh/h" + NOT_ITS,
     ),
     "a limit": bounds(
-        3, 2, [("72", "108")], 4, "limit_kmh", "108", r"at 07:00:30 .*Bridge \(30\).* 108 km/h.* 90 km/h"
+        3, 2, [("72", "108")], 4, "limit_kmh", "108", r"at 07:00:30 .*Bridge \(30\).* 108 km/h.* 90 km/h" + NOT_ITS
+    ),
+    "a limit in miles": bounds(
+        3,
+        2,
+        [("limit_kmh", "limit_mph"), ("72", "60")],
+        4,
+        "limit_mph",
+        "60",
+        r"at 07:00:30 .*Bridge \(30\).* 60 m(ph|i/h)",
     ),
     "a limit at the entry": bounds(
         1,
         0,
-        [("limit_kmh", "limit_units"), (FIRST, "10,07:00:10,07:00:20,450,1")],
+        [("limit_kmh", "limit_units"), (FIRST_RATE, "10,07:00:10,07:00:20,450,1")],
         2,
         "limit_units",
         "1",
         r"at 07:00:10 .*Entry \(10\).*entry.*no link",
     ),
     "a rate at the end": bounds(
-        1, 3, [(FIRST, "40,07:00:10,07:00:20,450,")], 2, "rate_vph", "450", r"at 07:00:10 .*Harbour \(40\).* 450 veh/h"
+        1,
+        3,
+        [(FIRST_RATE, "40,07:00:10,07:00:20,450,")],
+        2,
+        "rate_vph",
+        "450",
+        r"at 07:00:10 a rate at Harbour \(40\): it has no on-ramp",
     ),
 }
 
 # ---- refusals 7 to 13: corridor B's record ----
 
+CHECK = ("check", ".", "record.csv")
 COLUMNS = ("vehicles_units", "queue_units", "flow_units", "ramp_flow_units", "exit_flow_units")
 ROWS = [(state, identifier) for state in (0, 1) for identifier in (10, 20, 30)]
 
@@ -321,12 +356,9 @@ def proposed(
 ) -> Case:
     """A case of one row of corridor B's record with other words; `at` is the refusal's row where that is another."""
     old, new = record_row(file, state, identifier), words.split(",")
-    start = f"{state},{identifier},"
-    last = old[-1:]
-    cells: Cells = [
-        (file, 2 + ROWS.index((state, identifier)), column, new[COLUMNS.index(column)]) for column in named.split()
-    ]
-    edit = (file, start + ",".join(old), start + ",".join(new + last))
+    start, line = f"{state},{identifier},", 2 + ROWS.index((state, identifier))
+    cells: Cells = [(file, line, column, new[COLUMNS.index(column)]) for column in named.split()]
+    edit = (file, start + ",".join(old), start + ",".join([*new, old[-1]]))
     row = state if at < 0 else at
     return Case(number, row, identifier // 10 - 1, [edit], cells, told, B, ("check", ".", file))
 
@@ -401,13 +433,12 @@ RECORDS = {
         0,
         [("record.csv", "370", "371")],
         [("record.csv", 7, "cost_units", "371")],
-        r"cost is 371.*sum",
+        r"cost is 371.* accepts 370$",
         B,
-        ("check", ".", "record.csv"),
+        CHECK,
     ),
 }
 
-CHECK = ("check", ".", "record.csv")
 BEHIND: Files = changed(B, ("project.toml", "\n\n[plans]", '\ndownstream = "downstream.csv"\n\n[plans]'))
 BEHIND["downstream.csv"] = "from,30_vph\n07:30,393.75\n"
 LONG_QUEUE = [("corridor.csv", "337.5,3.125,3.125,0.78125", "843.75,3.125,3.125,2.34375")]
@@ -498,6 +529,7 @@ def test_a_refusal_is_told_at_its_cells(case: Case) -> None:
     assert cells_of(refusal) == case.cells
     assert re.search(case.told, refusal["told"])
     assert refusal["text"] == TEXTS[case.number] and f"gigorchid_{refusal['call']}(" in HEADER
+    assert bool(refusal["rest"]) == (case.number == 12)
     file, line, _, _ = case.cells[0]
     assert f"{file}:{line}: {refusal['told']} [refusal {case.number}]\n" in printed
 
@@ -511,64 +543,65 @@ def test_the_records_are_accepted_without_a_change() -> None:
 
 # ---- two faults at one node ----
 
-TWICE = {
-    "2": (
-        [("corridor.csv", MILL_ROAD, "20,Mill Road,500,400000,90,18,3000,900,25,20,2,,")],
-        VALLEY,
-        METERED,
-        {("corridor.csv", 3, "capacity_vph", "400000"), ("corridor.csv", 3, "jam_density_vpkm", "3000")},
+
+def twice(number: int, edits: list[Edit], cells: Cells) -> Case:
+    """A case of two faults at Mill Road, of which both cells are given."""
+    base, command = (B, CHECK) if edits[0][0] == "record.csv" else (VALLEY, METERED)
+    return Case(number, 0, 1, edits, cells, "", base, command)
+
+
+def twice_in_a_row(number: int, row: str, **figures: str) -> Case:
+    """A case of two faults in Mill Road's row of the corridor."""
+    cells: Cells = [("corridor.csv", 3, column, figure) for column, figure in figures.items()]
+    return twice(number, [("corridor.csv", MILL_ROAD, row)], cells)
+
+
+TWICE = [
+    twice_in_a_row(
+        2, "20,Mill Road,500,400000,90,18,3000,900,25,20,2,,", capacity_vph="400000", jam_density_vpkm="3000"
     ),
-    "3": (
-        [("corridor.csv", MILL_ROAD, "20,Mill Road,500,4500,90,18,200,400000,3000000,20,2,,")],
-        VALLEY,
-        METERED,
-        {("corridor.csv", 3, "ramp_capacity_vph", "400000"), ("corridor.csv", 3, "queue_limit_veh", "3000000")},
+    twice_in_a_row(
+        3,
+        "20,Mill Road,500,4500,90,18,200,400000,3000000,20,2,,",
+        ramp_capacity_vph="400000",
+        queue_limit_veh="3000000",
     ),
-    "4": (
-        [("corridor.csv", MILL_ROAD, "20,Mill Road,500,4500,90,18,200,900,25,101,26,,")],
-        VALLEY,
-        METERED,
-        {("corridor.csv", 3, "start_vehicles_veh", "101"), ("corridor.csv", 3, "start_queue_veh", "26")},
+    twice_in_a_row(
+        4, "20,Mill Road,500,4500,90,18,200,900,25,101,26,,", start_vehicles_veh="101", start_queue_veh="26"
     ),
-    "5": (
+    twice(
+        5,
         [("arrivals.csv", "3600,540", "3600,400000"), ("splits.csv", "12.5", "150")],
-        VALLEY,
-        METERED,
-        {("arrivals.csv", 2, "20_vph", "400000"), ("splits.csv", 2, "20_pct", "150")},
+        [("arrivals.csv", 2, "20_vph", "400000"), ("splits.csv", 2, "20_pct", "150")],
     ),
-    "6": (
+    twice(
+        6,
         [("plan-metered.csv", "360,", "1080,108")],
-        VALLEY,
-        METERED,
-        {("plan-metered.csv", 3, "rate_vph", "1080"), ("plan-metered.csv", 3, "limit_kmh", "108")},
+        [("plan-metered.csv", 3, "rate_vph", "1080"), ("plan-metered.csv", 3, "limit_kmh", "108")],
     ),
-    "7": (
+    twice(
+        7,
         [("record.csv", "0,20,200,50", "0,20,201,51")],
-        B,
-        CHECK,
-        {("record.csv", 3, "vehicles_units", "201"), ("record.csv", 3, "queue_units", "51")},
+        [("record.csv", 3, "vehicles_units", "201"), ("record.csv", 3, "queue_units", "51")],
     ),
-    "11": (
+    twice(
+        11,
         [("record.csv", "1,20,120,20", "1,20,121,21")],
-        B,
-        CHECK,
-        {("record.csv", 6, "vehicles_units", "121"), ("record.csv", 6, "queue_units", "21")},
+        [("record.csv", 6, "vehicles_units", "121"), ("record.csv", 6, "queue_units", "21")],
     ),
-}
+]
 
 
-@pytest.mark.parametrize("number, case", TWICE.items())
-def test_two_faults_at_one_node(number: str, case: tuple[list[Edit], Files, tuple[str, ...], set[Any]]) -> None:
-    """No cell is named that is not at fault, and the sentence speaks of the first that is named."""
-    edits, base, command, faulty = case
-    refusal, _ = refusal_of(changed(base, *edits), command)
-    assert refusal["refusal"] == int(number)
+@pytest.mark.parametrize("case", TWICE, ids=[str(case.number) for case in TWICE])
+def test_two_faults_at_one_node(case: Case) -> None:
+    """Both are named, or for 5 and 6 one of them; no other cell is; and the sentence speaks of the first."""
+    refusal, _ = refusal_of(changed(case.base, *case.edits), case.command)
     named = cells_of(refusal)
-    assert named and set(named) <= faulty
+    assert (refusal["refusal"], refusal["node"]) == (case.number, case.node)
+    assert named and set(named) <= set(case.cells)
+    assert case.number in (5, 6) or len(named) == 2
     figure = named[0][3]
     assert figure in refusal["told"] or f"{int(figure):,}" in refusal["told"]
-    if number not in ("5", "6"):
-        assert set(named) == faulty
 
 
 # ---- figures that are alike ----
@@ -583,7 +616,7 @@ def test_a_limit_just_above_full_speed_is_told_apart_from_it() -> None:
     ]
     refusal, _ = refusal_of(changed(VALLEY, *edits), METERED)
     assert (refusal["refusal"], cells_of(refusal)) == (6, [("plan-metered.csv", 4, "limit_kmh", "90")])
-    limit, full = re.findall(r"([\d.]+) km/h", refusal["told"])
+    limit, full = re.findall(r"([\d.]+) mph", refusal["told"])
     assert Fraction(limit) > Fraction(full)
 
 
@@ -628,6 +661,11 @@ def test_a_refusal_of_a_later_state_names_its_row_and_time(number: int, options:
 # ---- refusal 12 of a plan ----
 
 TIGHT = [("corridor.csv", "200,900,25", "200,900,5"), ("plan-metered.csv", "360", "0")]
+EARLY = [
+    ("corridor.csv", "200,900,25", "200,900,3"),
+    ("plan-metered.csv", "450", "0"),
+    ("plan-metered.csv", "360", "0"),
+]
 SHORT = [*TIGHT, ("corridor.csv", "4500,none,,10", "4500,11,,10")]
 LABELS = {"10": "Entry (10)", "20": "Mill Road (20)"}
 
@@ -647,6 +685,11 @@ def vehicles(units: int) -> str:
     return f"{tenths // 10}.{tenths % 10}".removesuffix(".0")
 
 
+def minutes(states: int) -> str:
+    """How long so many states of 10 s are, to one decimal, halves up, without a zero at the end."""
+    return vehicles(floor(Fraction(states * 64, 6)))
+
+
 def time(state: int) -> str:
     return f"07:{state // 6:02d}:{10 * state % 60:02d}"
 
@@ -655,10 +698,11 @@ def time(state: int) -> str:
 @pytest.mark.parametrize(
     "edits, limits, cell",
     [
+        (EARLY, {"20": 192}, ("plan-metered.csv", 2, "rate_vph", "0")),
         (TIGHT, {"20": 320}, ("plan-metered.csv", 3, "rate_vph", "0")),
         (SHORT, {"10": 704, "20": 320}, ("corridor.csv", 2, "queue_limit_veh", "11")),
     ],
-    ids=["the row in force", "no row: the limit itself"],
+    ids=["the first row", "the row in force", "no row: the limit itself"],
 )
 def test_a_plan_with_a_long_queue(command: str, edits: list[Edit], limits: dict[str, int], cell: Any) -> None:
     """The first queue that passes its limit is told at the row that sets its rate, and all of them in the rest."""
@@ -670,29 +714,16 @@ def test_a_plan_with_a_long_queue(command: str, edits: list[Edit], limits: dict[
     assert (refusal["refusal"], refusal["row"], refusal["node"]) == (12, state - 1, identifier // 10 - 1)
     assert cells_of(refusal) == [cell]
     label, limit = LABELS[str(identifier)], limits[str(identifier)] // 64
-    assert (
-        refusal["told"]
-        == f"at {time(state)} the queue of {label} reaches {vehicles(queue)} vehicles, and its limit is {limit}"
-    )
+    told = f"at {time(state)} the queue of {label} reaches {vehicles(queue)} vehicles, and its limit is {limit}"
+    unmetered = "; it does so unmetered too, held up by the mainline or by its own capacity"
+    assert refusal["told"] == told + (unmetered if cell[0] == "corridor.csv" else "")
     assert f"{cell[0]}:{cell[1]}: {refusal['told']} [refusal 12]" in printed
     assert len(refusal["rest"]) == len(long)
     for sentence, (name, states) in zip(refusal["rest"], long.items()):
         most, at = max((queue, -state) for state, queue in states)
-        for part in (LABELS[name], f" {len(states)} states", time(states[0][0]), time(states[-1][0])):
+        for part in (LABELS[name], f" {minutes(len(states))} min in all", time(states[0][0]), time(states[-1][0])):
             assert part in sentence
         assert sentence.endswith(f"most {vehicles(most)} at {time(-at)}") and sentence in printed
-
-
-def test_a_plan_with_a_long_queue_is_told_at_the_row_that_holds_then() -> None:
-    """Of two rows with one rate, the one that is in force when the queue passes its limit."""
-    edits = [
-        ("corridor.csv", "200,900,25", "200,900,3"),
-        ("plan-metered.csv", "450", "0"),
-        ("plan-metered.csv", "360", "0"),
-    ]
-    refusal, _ = refusal_of(changed(VALLEY, *edits), METERED)
-    assert (refusal["refusal"], refusal["row"]) == (12, 0)
-    assert cells_of(refusal) == [("plan-metered.csv", 2, "rate_vph", "0")]
 
 
 # ---- block files ----

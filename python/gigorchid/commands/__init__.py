@@ -2,13 +2,16 @@
 
 from __future__ import annotations
 
+import io
+import signal
 import sys
+from collections.abc import Callable
 from importlib import import_module
 
 import click
 
 from .. import __version__, library
-from .base import USAGE, quiet_pipe, show_progress
+from .base import INTERRUPTED, USAGE, print_json, show_progress, silence
 
 COMMANDS = (
     "new",
@@ -67,17 +70,44 @@ def cli() -> None:
 
 def main() -> None:
     """Runs the command line, and ends with its exit status."""
+    # A reader that goes away, such as head, ends the program as it ends any other.
+    signal.signal(signal.SIGPIPE, signal.SIG_DFL)
+    if sys.stdout is None or sys.stderr is None:
+        sys.exit(USAGE)
+    for stream in (sys.stdout, sys.stderr):
+        if isinstance(stream, io.TextIOWrapper):
+            stream.reconfigure(errors="replace")
     show_progress()
+    sys.exit(_written(_status))
+
+
+def _written(run: Callable[[], int]) -> int:
+    """The status, once all that was printed is written."""
+    try:
+        status = run()
+        sys.stdout.flush()
+        return status
+    except OSError as error:
+        silence()
+        click.echo(f"gigorchid: standard output cannot be written: {error.strerror}", err=True)
+        return USAGE
+
+
+def _status() -> int:
+    """Runs a command, and tells what is wrong with the command line."""
     try:
         cli.main(prog_name="gigorchid", standalone_mode=False)
+    except SystemExit as ended:
+        return int(ended.code or 0)
     except click.ClickException as error:
-        error.show()
-        sys.exit(USAGE)
+        if "--json" in sys.argv:
+            print_json({"status": USAGE, "verdict": "USAGE", "error": error.format_message()})
+        else:
+            error.show()
+        return USAGE
     except click.Abort:
-        sys.exit(130)
+        return INTERRUPTED
     except library.LibraryMissing as error:
         click.echo(f"gigorchid: {error}", err=True)
-        sys.exit(USAGE)
-    except BrokenPipeError:
-        quiet_pipe()
-        sys.exit(0)
+        return USAGE
+    return 0

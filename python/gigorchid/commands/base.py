@@ -20,13 +20,15 @@ from rich.text import Text
 
 from ..project import ENDINGS, Project
 from .. import progress
+from ..figures import MARK, NOT_PROVED
 from ..plans import Plan, write_plan
 from ..records import Record, write_record
 from ..refusals import Refusal
-from ..sheets import Fault
+from ..sheets import Fault, save
 from ..tell import Told
 
 ACCEPTED, DIFFERENT, REFUSED, FAULTY, NOT_COMPARABLE, USAGE = 0, 1, 2, 3, 4, 64
+INTERRUPTED = 130
 """The exit statuses; USAGE also where a file named on the command line cannot be read or written."""
 
 PLAIN_WIDTH = 120
@@ -36,6 +38,10 @@ STANDARD_OUTPUT = "-"
 
 Shown = str | Table
 """What is printed for people."""
+
+
+class Unusable(click.ClickException):
+    """A file that is named on the command line and cannot be used; the command line itself is in order."""
 
 
 @dataclass
@@ -55,7 +61,8 @@ def table(columns: Sequence[str], rows: Iterable[Sequence[object]], words: int =
     """A table for people: the first columns in words, to the left, the others in figures, to the right."""
     made = Table(box=None, pad_edge=False, padding=(0, 2, 0, 0), header_style="bold")
     for place, column in enumerate(columns):
-        made.add_column(column, justify="left" if place < words else "right", overflow="fold")
+        left = place < words
+        made.add_column(column, justify="left" if left else "right", overflow="fold", no_wrap=not left)
     for row in rows:
         made.add_row(*(Text(str(cell)) for cell in row))
     return made
@@ -111,7 +118,7 @@ def finish(name: str, as_json: bool, outcome: Outcome) -> None:
 def refused(refusal: Refusal) -> Outcome:
     """The outcome of a refusal."""
     told = refusal if isinstance(refusal, Told) else Told(refusal, refusal.text)
-    lines = [str(told)] + [f"  {line}" for line in told.rest]
+    lines = [str(told)] + [f"  {line} {MARK}" for line in told.rest] + ([NOT_PROVED] if told.rest else [])
     return Outcome({"verdict": "REFUSED", "refusal": told.as_json()}, lines, REFUSED, aside=True)
 
 
@@ -151,7 +158,7 @@ def load_project(path: str) -> Project:
     """The project of a folder, or of its project.toml, that is named on the command line."""
     file = Path(path) / "project.toml" if Path(path).is_dir() else Path(path)
     if not file.is_file():
-        raise click.UsageError(f"there is no {file}; `gigorchid new DIR` makes a project")
+        raise Unusable(f"there is no {file}; `gigorchid new DIR` makes a project")
     return Project.load(path)
 
 
@@ -162,7 +169,7 @@ def _found(project: Project, name: str) -> Path | None:
 
 def _test_ending(name: str) -> None:
     if Path(name).suffix not in ENDINGS:
-        raise click.UsageError(f"{name}: the file of a plan or a record ends in {' or '.join(ENDINGS)}")
+        raise Unusable(f"{name}: the file of a plan or a record ends in {' or '.join(ENDINGS)}")
 
 
 def load_plan(project: Project, name: str) -> Plan:
@@ -172,16 +179,21 @@ def load_plan(project: Project, name: str) -> Plan:
     path = _found(project, name)
     if path is None:
         known = ", ".join(project.plans) or "none"
-        raise click.UsageError(f"there is no plan {name}: neither a file, nor one of the project's plans ({known})")
+        raise Unusable(f"there is no plan {name}: neither a file, nor one of the project's plans ({known})")
     _test_ending(name)
     return project.plan(path)
+
+
+def warned(*plans: Plan) -> list[str]:
+    """Warnings of plans whose rows say nothing of any step: they are read, and do nothing."""
+    return [f"warning: {each}" for plan in plans for each in plan.outside()]
 
 
 def load_record(project: Project, name: str) -> Record:
     """A record by its file."""
     path = _found(project, name)
     if path is None:
-        raise click.UsageError(f"there is no record {name}; `gigorchid simulate PROJECT PLAN -o {name}` writes one")
+        raise Unusable(f"there is no record {name}; `gigorchid simulate PROJECT PLAN -o {name}` writes one")
     _test_ending(name)
     return project.record(path)
 
@@ -197,22 +209,24 @@ output_option = click.option(
 )
 
 
-def _write(output: str, text: Callable[[], str], save: Callable[[Path], None]) -> None:
+def _write(project: Project, output: str, text: Callable[[], str], write: Callable[[Path], None]) -> None:
     if output == STANDARD_OUTPUT:
-        click.echo(text(), nl=False)
+        click.echo(text().encode(), nl=False)
         return
     _test_ending(output)
+    if Path(output).resolve() in project.own_files():
+        raise Unusable(f"{output} is a file of the project, which would be lost: write to another")
     try:
-        save(Path(output))
+        write(Path(output))
     except OSError as error:
-        raise click.UsageError(f"{output}: cannot be written: {error.strerror}") from None
+        raise Unusable(f"{output}: cannot be written: {error.strerror}") from None
 
 
 def want_empty(folder: str) -> None:
     """Refuses to write a project into a folder that holds something already."""
     path = Path(folder)
     if path.exists() and (not path.is_dir() or any(path.iterdir())):
-        raise click.UsageError(f"{folder} is there, and not an empty folder")
+        raise Unusable(f"{folder} is there, and not an empty folder")
 
 
 def write_files(folder: str, files: dict[str, bytes]) -> None:
@@ -220,25 +234,25 @@ def write_files(folder: str, files: dict[str, bytes]) -> None:
     try:
         Path(folder).mkdir(parents=True, exist_ok=True)
         for name, content in files.items():
-            (Path(folder) / name).write_bytes(content)
+            save(Path(folder) / name, content)
     except OSError as error:
-        raise click.UsageError(f"{folder}: cannot be written: {error.strerror}") from None
+        raise Unusable(f"{folder}: cannot be written: {error.strerror}") from None
 
 
-def write_plan_to(output: str | None, plan: Plan, comments: tuple[str, ...] = ()) -> list[str]:
+def write_plan_to(project: Project, output: str | None, plan: Plan, comments: tuple[str, ...] = ()) -> list[str]:
     """Writes a plan where it is wanted, and says so."""
     if output is None:
         return []
-    _write(output, lambda: write_plan(plan, comments), lambda path: plan.save(path, comments))
+    _write(project, output, lambda: write_plan(plan, comments), lambda path: plan.save(path, comments))
     return [] if output == STANDARD_OUTPUT else [f"written to {output}"]
 
 
-def write_record_to(output: str | None, record: Record) -> list[str]:
+def write_record_to(project: Project, output: str | None, record: Record) -> list[str]:
     """Writes a record where it is wanted, and says so."""
     if output is None:
         return []
-    _write(output, lambda: write_record(record), record.save)
-    return [] if output == STANDARD_OUTPUT else [f"record of kind {record.kind} written to {output}"]
+    _write(project, output, lambda: write_record(record), record.save)
+    return [] if output == STANDARD_OUTPUT else [f"record written to {output}"]
 
 
 def show_progress() -> None:
@@ -248,7 +262,7 @@ def show_progress() -> None:
         progress.show_with(lambda rows, what: track(rows, description=what, console=console, transient=True))
 
 
-def quiet_pipe() -> None:
-    """Lets a reader that has gone, such as head, end the program without a message."""
+def silence() -> None:
+    """Lets what could not be printed go, so that it is not tried again at the end."""
     devnull = os.open(os.devnull, os.O_WRONLY)
     os.dup2(devnull, sys.stdout.fileno())

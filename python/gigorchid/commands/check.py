@@ -3,7 +3,7 @@
 from __future__ import annotations
 
 from .base import Outcome, Shown, command as make_command, load_project, load_record, project_argument, record_argument
-from .simulate import queue_data, queue_table, travel_data, travel_lines
+from .simulate import figures_data, queue_table, travel_lines
 
 
 @make_command("check", short_help="Check a proposed record.")
@@ -26,7 +26,6 @@ def command(project: str, record: str) -> Outcome:
         "kind": proposed.kind,
         "verdict": "ACCEPTED",
         "cost_units": proposed.cost,
-        "queues": queue_data(road, proposed),
-        "not_proved": travel_data(proposed),
+        "not_proved": figures_data(road, proposed),
     }
     return Outcome(data, lines)

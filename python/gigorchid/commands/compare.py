@@ -14,7 +14,7 @@ from ..project import FILE, Project
 from ..records import COLUMNS
 from ..tell import vehicles
 from ..units import decimal, told_apart
-from .base import ACCEPTED, Outcome, Shown, command as make_command, load_plan, load_project, table
+from .base import ACCEPTED, Outcome, Shown, Unusable, command as make_command, load_plan, load_project, table, warned
 from .base import DIFFERENT as STATUS_DIFFERENT, NOT_COMPARABLE as STATUS_NOT_COMPARABLE
 from .plan_view import limit_text, per_hour
 
@@ -35,7 +35,7 @@ def operand(text: str, project: Project | None) -> tuple[Project, Plan]:
             if (parent / FILE).is_file():
                 found = load_project(str(parent))
                 return found, load_plan(found, text)
-    raise click.UsageError(
+    raise Unusable(
         f"{text}: expected PROJECT:PLAN, a plan of the project before it, or the file of a plan in a project's folder"
     )
 
@@ -56,9 +56,10 @@ def command(first: str, second: str) -> Outcome:
     other, plan_b = operand(second, project)
     found = compare(side(project, plan), side(other, plan_b))
     lines = _by_identifier(found) if found.verdict == NOT_COMPARABLE else _on_one_road(found)
+    warnings = warned(plan, plan_b)
     return Outcome(
         _data(found, first, second),
-        [_verdict(found), f"A: {_named(found.a, first)}", f"B: {_named(found.b, second)}", *lines],
+        [_verdict(found), f"A: {_named(found.a, first)}", f"B: {_named(found.b, second)}", *warnings, *lines],
         STATUS[found.verdict],
     )
 
@@ -85,7 +86,9 @@ def _on_one_road(found: Comparison) -> list[Shown]:
     if found.first_word is not None:
         states, nodes, _ = found.a.record.states.shape
         lines.append(f"first in the records, {_word(found, found.first_word)}")
-        lines.append(f"{found.places_different:,} of {states * nodes:,} states of nodes differ")
+        lines.append(
+            f"{found.places_different:,} of {states * nodes:,} places of the records, a node at a time, differ {MARK}"
+        )
         hours = [decimal(travel(each.record).hours, 1) for each in (found.a, found.b)]
         lines.append(f"vehicle hours {MARK}: {hours[0]} in A, {hours[1]} in B")
     if found.only_written:
@@ -118,14 +121,17 @@ def _word(found: Comparison, first: First) -> str:
     return f"at {time} at {_label(found, first.node)}: {what} {one} vehicles in A and {other} in B ({first.a:,} and {first.b:,} units)"
 
 
-def _settings(words: tuple[int, int], node: int, plan: Plan) -> str:
-    parts = [f"{per_hour(words[RATE], plan)} veh/h"] if node < plan.corridor.links else []
-    return ", ".join(parts + ([limit_text(words[LIMIT], node, plan)] if node else []))
+def _setting_text(place: int, word: int, node: int, plan: Plan) -> str:
+    return f"{per_hour(word, plan)} veh/h" if place == RATE else limit_text(word, node, plan)
 
 
 def _written_row(found: Comparison, run: Written) -> list[str]:
-    clock = found.a.project.clock
-    both = [_settings(words, run.node, found.a.plan) for words in (run.a, run.b)]
+    """A run of steps, with what differs of rate and limit."""
+    clock, plan = found.a.project.clock, found.a.plan
+    places = [place for place in (RATE, LIMIT) if run.a[place] != run.b[place]]
+    both = [
+        ", ".join(_setting_text(place, words[place], run.node, plan) for place in places) for words in (run.a, run.b)
+    ]
     return [_label(found, run.node), clock.at(run.start), clock.at(run.end), *both]
 
 
@@ -139,22 +145,20 @@ def _between(each: Side, place: int) -> str:
 def _by_identifier(found: Comparison) -> list[Shown]:
     lines: list[Shown] = [f"only in A: {_between(found.a, place)}" for place in found.only_in_a]
     lines += [f"only in B: {_between(found.b, place)}" for place in found.only_in_b]
-    names = list(found.shared[0].firsts) if found.shared else []
     rows = []
     for each in found.shared:
-        times = [
-            "same" if first is None else f"from {found.a.project.clock.at(first)}" for first in each.firsts.values()
-        ]
-        columns = ", ".join(name.replace("_", " ") for name in each.columns) or "same"
-        rows.append([found.a.project.corridor.nodes[each.a].label, columns, *times])
-    if not rows:
-        return lines + ["no identifier is in both"]
-    said = (
-        "of the nodes in both, by identifier:"
-        if names
-        else "of the nodes in both, by identifier (not in time, since the steps are not the same):"
-    )
-    return lines + ["", said, table(["node", "corridor", *names], rows, words=2 + len(names))]
+        firsts = {name: first for name, first in each.firsts.items() if first is not None}
+        parts = [name.replace("_", " ") for name in each.columns]
+        parts += [f"{name.replace('_', ' ')} from {found.a.project.clock.at(at)} on" for name, at in firsts.items()]
+        if parts:
+            rows.append([found.a.project.corridor.nodes[each.a].label, ", ".join(parts)])
+    in_time = any(each.firsts for each in found.shared)
+    lines.append("" if in_time else "the steps are not the same, so nothing can be said in time")
+    if rows:
+        lines += ["of the nodes in both, by identifier, these differ:", table(["node", "in"], rows, words=2)]
+    same = len(found.shared) - len(rows)
+    said = "arrivals, split, rate, limit, queue and flows" if in_time else "the corridor"
+    return lines + [f"{same} of {len(found.shared)} nodes in both are the same in {said}"]
 
 
 def _first_data(found: Comparison, first: First | None, names: tuple[str, ...]) -> dict[str, object] | None:
@@ -199,7 +203,6 @@ def _data(found: Comparison, first: str, second: str) -> dict[str, object]:
         return data
     data["first_in_normal_forms"] = _first_data(found, found.first_setting, ("rate_units", "limit_units"))
     data["first_in_records"] = _first_data(found, found.first_word, COLUMNS)
-    data["places_different"] = found.places_different
     data["only_written_differently"] = [
         {
             "id": nodes[run.node].identifier,
@@ -210,7 +213,7 @@ def _data(found: Comparison, first: str, second: str) -> dict[str, object]:
         }
         for run in found.only_written
     ]
-    data["not_proved"] = {
+    data["not_proved"] = {"places_different": found.places_different} | {
         f"vehicle_hours_{name}": travel(each.record).hours for name, each in (("a", found.a), ("b", found.b))
     }
     return data

@@ -31,7 +31,7 @@ def command(project: str, record: str, output: str | None) -> Outcome:
     road = load_project(project)
     proposed = load_record(road, record)
     plan = road.convert(proposed)
-    written = write_plan_to(output, plan, (f"The converter's plan for the record {record}.", SMALLEST))
+    written = write_plan_to(road, output, plan, (f"The converter's plan for the record {record}.", SMALLEST))
     lines: list[Shown] = [
         f"ACCEPTED: this plan is valid and has the record {record}, in every word",
         SMALLEST,

@@ -2,6 +2,8 @@
 
 from __future__ import annotations
 
+import re
+
 import click
 
 from ..project import Project
@@ -16,6 +18,28 @@ ROWS = {
     **{number: BLOCK for number in (15, 16, 17, 18)},
 }
 NODES = range(2, 13)
+
+LETTERS = {
+    "N": "number of links",
+    "K": "number of steps",
+    "F": "capacity",
+    "V": "full speed",
+    "W": "wave speed",
+    "J": "jam, vehicles on a full link",
+    "C": "ramp capacity",
+    "L": "queue limit",
+    "n": "vehicles on a link",
+    "l": "queue of a ramp",
+    "Q": "arrivals",
+    "b": "split to the off-ramp",
+    "P": "flow that may leave the last link",
+    "f": "flow out of a link",
+    "r": "flow off a ramp",
+    "T(f)": "what of f stays on the mainline",
+    "S": "what the next link can take in",
+    "rule 6": "what was there, plus what came, less what left",
+}
+"""The letters of the texts, as docs/MODEL.md has them."""
 
 GIVEN_BY = {
     range(1, 2): "every call",
@@ -67,12 +91,25 @@ def _place(number: int, row: int, node: int, project: Project | None) -> list[st
     return lines
 
 
+def _legend(text: str) -> str:
+    """The letters of a text, each with its meaning."""
+    used = [letter for letter in LETTERS if re.search(rf"(?<![\w(]){re.escape(letter)}(?!\w)", text)]
+    return "; ".join(f"{letter}: {LETTERS[letter]}" for letter in used)
+
+
+def _test_place(number: int, row: int, node: int, project: Project) -> None:
+    """Refuses a place that the project does not have."""
+    most = {STEP: project.steps - 1, STATE: project.steps}.get(ROWS.get(number, ""), row)
+    if row > most or (number in NODES and node > project.links):
+        raise click.UsageError(
+            f"row {row:,}, node {node}: the project has {project.steps:,} steps and nodes 0 to {project.links}"
+        )
+
+
 @make_command("explain", short_help="A refusal in words.")
 @click.argument("number", type=click.IntRange(0, 2**32 - 1), metavar="NUMBER")
-@click.option(
-    "--row", type=click.IntRange(0, 65_535), help="The row that came with it, where NUMBER is a refusal number alone."
-)
-@click.option("--node", type=click.IntRange(0, 255), help="The node that came with it.")
+@click.option("--row", type=click.IntRange(0, 65_535), metavar="ROW", help="The row that came with a refusal number.")
+@click.option("--node", type=click.IntRange(0, 255), metavar="NODE", help="The node that came with it.")
 @click.option("--project", metavar="PROJECT", help="Name times and nodes as this project does.")
 def command(number: int, row: int | None, node: int | None, project: str | None) -> Outcome:
     """Explain a refusal: NUMBER is its number, 1 to 18, or the whole answer of a C call, row × 65,536 + node × 256 + number."""
@@ -86,14 +123,25 @@ def command(number: int, row: int | None, node: int | None, project: str | None)
     placed = number > 255 or row or node or road is not None
     text = REFUSALS[refusal][1]
     given_by = next(who for numbers, who in GIVEN_BY.items() if refusal in numbers)
+    if road is not None:
+        _test_place(refusal, row, node, road)
     place = _place(refusal, row, node, road) if placed else []
+    legend = _legend(text)
     meant = [f"its row is the {ROWS[refusal]}"] if refusal in ROWS and not placed else []
-    lines = [f"refusal {refusal}: {text}", *place, f"given by {given_by}", *meant, REMEDIES[refusal]]
+    lines = [
+        f"refusal {refusal}: {text}",
+        *([f"({legend})"] if legend else []),
+        *place,
+        f"given by {given_by}",
+        *meant,
+        REMEDIES[refusal],
+    ]
     data = {
         "refusal": refusal,
         "row": row,
         "node": node,
         "text": text,
+        "letters": legend,
         "place": place,
         "given_by": given_by,
         "remedy": REMEDIES[refusal],

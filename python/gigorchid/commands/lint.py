@@ -5,8 +5,6 @@ from __future__ import annotations
 from collections.abc import Iterable
 from fractions import Fraction
 
-from rich.table import Table
-
 from .. import lint
 from ..plans import Plan
 from ..project import Project
@@ -43,22 +41,27 @@ def _change(each: lint.Rounded) -> str:
         return "exact"
     share = abs(each.change) * 100
     sign = "-" if each.change < 0 else "+"
-    return f"{sign}{decimal(share, 2)} %" if share >= Fraction(1, 100) else f"{sign}under 0.01 %"
+    return f"{sign}{decimal(share, 2)} %" if share >= Fraction(1, 100) else "under 0.01 %"
 
 
-def _figures(figures: Iterable[lint.Rounded]) -> Table:
-    rows = [
-        [
-            f"{each.file}:{_lines_text(each.lines)}",
-            each.column,
-            each.text,
-            f"{each.word:,}",
-            f"{tidy(decimal(each.back, 2))} {SYMBOLS[each.ending]}",
-            _change(each),
+def _figures(figures: list[lint.Rounded]) -> list[Shown]:
+    """A table for each file, of the figures that were converted."""
+    shown: list[Shown] = []
+    for file in dict.fromkeys(each.file for each in figures):
+        rows = [
+            [
+                each.column,
+                _lines_text(each.lines),
+                each.text,
+                f"{each.word:,}",
+                f"{tidy(decimal(each.back, 2))} {SYMBOLS[each.ending]}",
+                _change(each),
+            ]
+            for each in figures
+            if each.file == file
         ]
-        for each in figures
-    ]
-    return table(["lines", "column", "given", "units", "which is", "rounding"], rows, words=2)
+        shown += ["", table([file, "lines", "given", "units", "which is", "rounding"], rows, words=2)]
+    return shown or ["", "every figure is given in exact units"]
 
 
 def _verdicts(project: Project, plans: list[Plan]) -> tuple[list[str], dict[str, object], bool]:
@@ -77,6 +80,19 @@ def _verdicts(project: Project, plans: list[Plan]) -> tuple[list[str], dict[str,
             lines.append(f"plan {plan.name}: valid")
             data[plan.name] = None
     return lines, data, bad
+
+
+def _kinds(road: Project) -> str:
+    """What the tables say of drops and of what lies downstream, and how coarse a unit of flow is."""
+    drops = (
+        "some links may drop (corridor of kind 10)"
+        if road.corridor.kind == 10
+        else "no link drops (corridor of kind 1)"
+    )
+    beyond = "less may leave downstream (demands of kind 5)"
+    free = "traffic past the last link is free (demands of kind 2)"
+    unit = tidy(decimal(1 / factor("vph", road.clock.step), 3))
+    return f"{drops}; {beyond if road.demands.kind == 5 else free}; one unit of flow is {unit} veh/h"
 
 
 def _figure_data(figures: Iterable[lint.Rounded]) -> list[dict[str, object]]:
@@ -114,18 +130,17 @@ def command(project: str) -> Outcome:
     arrivals = lint.arrived(road)
     lines: list[Shown] = [
         f"{road.title}: {road.links} links, {road.steps:,} steps of {float(road.clock.step):g} s, {road.clock.at(0)} to {road.clock.at(road.steps)}",
-        f"corridor of kind {road.corridor.kind}, demands of kind {road.demands.kind}; one unit of flow is {tidy(decimal(1 / factor('vph', road.clock.step), 3))} veh/h",
-        "",
-        _figures(figures),
+        _kinds(road),
+        *_figures(figures),
         "",
         table(
-            ["arrivals", "vehicles given", "in units"],
+            ["arrivals", "given, veh", "after rounding, veh"],
             [[each.column, decimal(each.given, 3), decimal(each.words, 3)] for each in arrivals],
         ),
         "",
         *verdicts,
         *[f"warning: {each}" for each in warned],
-        f"{len(warned)} warnings",
+        f"{len(warned)} warning" + ("" if len(warned) == 1 else "s"),
     ]
     data = {
         "links": road.links,

@@ -11,6 +11,7 @@ from .base import (
     output_option,
     plan_argument,
     project_argument,
+    warned,
     write_plan_to,
 )
 from .plan_view import settings_data, settings_table
@@ -31,9 +32,10 @@ def command(project: str, plan: str, output: str | None) -> Outcome:
     normal = road.normal(given).plan
     note = f"Not the plan {given.name} as it was written: the smallest rates with the same record."
     written = write_plan_to(
-        output, normal, (f"Normal form of the plan {given.name} of {road.title or road.folder.name}.", note)
+        road, output, normal, (f"Normal form of the plan {given.name} of {road.title or road.folder.name}.", note)
     )
     lines: list[Shown] = [
+        *warned(given),
         f"VALID: normal form of the plan {given.name}",
         note,
         "",
@@ -46,6 +48,7 @@ def command(project: str, plan: str, output: str | None) -> Outcome:
         "verdict": "VALID",
         "note": note,
         "normal_form": settings_data(normal),
+        "warnings": given.outside(),
         "written": output,
     }
     return Outcome(data, lines[: None if written else -1], aside=output == "-")

@@ -18,11 +18,8 @@ def per_hour(word: int, plan: Plan) -> str:
 
 
 def limit_text(word: int, node: int, plan: Plan) -> str:
-    """A limit in kilometres per hour, or in units where the link's length is not known."""
-    length = plan.corridor.nodes[node].length
-    if length is None:
-        return f"{word:,} units"
-    return f"{tidy(decimal(word / factor('kmh', plan.clock.step, length), 1))} km/h"
+    """A limit in the unit of speeds, or in units where the link's length is not known."""
+    return plan.corridor.speed_text(word, node, plan.clock.step)
 
 
 def _rates(found: NodeSettings, corridor: Corridor, plan: Plan) -> str:
@@ -40,7 +37,7 @@ def settings_table(plan: Plan) -> Table:
         lowest = limit_text(found.least_limit, found.node, plan) if found.held_steps else ""
         label = plan.corridor.nodes[found.node].label
         rows.append([label, _rates(found, plan.corridor, plan), f"{found.changes:,}", held, lowest])
-    return table(["node", "rate, veh/h", "changes", "steps held", "lowest limit"], rows)
+    return table(["node", "rate, veh/h", "changes", "steps with a limit", "lowest limit"], rows)
 
 
 def settings_data(plan: Plan) -> list[dict[str, object]]:

@@ -56,12 +56,16 @@ def command(project: str, record: str, time: str, identifier: int) -> Outcome:
         return f"{word:,} units ({tidy(decimal(word / factor('vph', road.clock.step), 1))} veh/h)"
 
     capacity = road.corridor.word(node, RAMP_CAPACITY)
+    limit = int(road.convert(proposed).limits[step, node])
+    posted = road.corridor.speed_text(limit, node, road.clock.step)
+    if found.found:
+        outcome = f"found: {shown(found.rate)}, the smallest that gives these flows at full speed"
+    else:
+        outcome = f"none: no rate gives these flows at full speed, so the converter posts a limit of {posted}"
     lines = [
         f"{label} at {when}: {shown(flow)} leave the link, {shown(ramp)} the ramp",
-        f"rates tried: {found.tries}, of 0 to {shown(capacity)}",
-        f"found: {shown(found.rate)}, the smallest that gives these flows at full speed"
-        if found.found
-        else "none: no rate gives these flows at full speed, so a limit is posted",
+        f"rates tried: {found.tries}, of 0 to {shown(capacity)}" if capacity else "no on-ramp: the only rate is 0",
+        outcome,
     ]
     data = {
         "record": record,
@@ -74,5 +78,6 @@ def command(project: str, record: str, time: str, identifier: int) -> Outcome:
         "tries": found.tries,
         "found": found.found,
         "rate_units": found.rate if found.found else None,
+        "limit_units": limit,
     }
     return Outcome(data, lines)

@@ -7,11 +7,11 @@ from fractions import Fraction
 import click
 from rich.table import Table
 
-from ..figures import MARK, NOT_PROVED, greatest_queues, travel, waiting_hours
+from ..figures import MARK, NOT_PROVED, greatest_queues, slowest, travel, waiting_hours
 from ..project import Project
 from ..records import Record
 from ..tell import Told, vehicles
-from ..units import decimal, tidy
+from ..units import KILOMETRES_PER_MILE, SYMBOLS, decimal, nearest, tidy
 from ..corridor import NO_LIMIT
 from .base import (
     ACCEPTED,
@@ -26,6 +26,7 @@ from .base import (
     plan_argument,
     project_argument,
     table,
+    warned,
     write_record_to,
 )
 
@@ -43,50 +44,55 @@ def queue_table(project: Project, record: Record) -> Table:
         hours = decimal(waiting_hours(record, most.node), 1)
         label, time = project.corridor.nodes[most.node].label, project.clock.at(most.state)
         rows.append([label, decimal(vehicles(most.queue), 1), limit, share, time, hours])
-    return table(["ramp", "greatest queue", "limit", "of it", "at", f"hours waited {MARK}"], rows)
+    return table(
+        ["ramp", f"longest queue, veh {MARK}", "limit, veh", f"share {MARK}", f"at {MARK}", f"hours {MARK}"], rows
+    )
 
 
 def travel_lines(record: Record) -> list[str]:
     """Cost, and the figures that are not proved."""
     sums = travel(record)
+    total, on_links = (nearest(hours * 10) for hours in (sums.hours, sums.hours_on_links))
+    parts = [decimal(Fraction(tenths, 10), 1) for tenths in (total, on_links, total - on_links)]
     lines = [
-        f"cost: {record.cost:,} units × steps",
-        f"vehicle hours {MARK}: {decimal(sums.hours, 1)}, of them {decimal(sums.hours_on_links, 1)} on links and {decimal(sums.hours_in_queues, 1)} in queues",
+        f"cost: {record.cost:,} (1/64 vehicle times steps)",
+        f"vehicle hours {MARK}: {parts[0]}, of them {parts[1]} on links and {parts[2]} in queues",
     ]
-    if sums.kilometres is not None:
-        lines.append(
-            f"vehicle kilometres {MARK}: {decimal(sums.kilometres, 0)}, mean speed {MARK} {decimal(sums.mean_speed or 0, 1)} km/h"
-        )
+    per, unit = (KILOMETRES_PER_MILE, "miles") if record.corridor.speeds == "mph" else (Fraction(1), "kilometres")
+    symbol = SYMBOLS[record.corridor.speeds]
+    if sums.kilometres is not None and sums.mean_speed is not None:
+        distance, speed = decimal(sums.kilometres / per, 0), decimal(sums.mean_speed / per, 1)
+        lines.append(f"vehicle {unit} {MARK}: {distance}; mean speed on links {MARK}: {speed} {symbol}")
+    slow = slowest(record)
+    if slow is not None:
+        where, when = record.corridor.nodes[slow.node].label, record.clock.at(slow.state)
+        lines.append(f"slowest {MARK}: {decimal(slow.speed, 1)} {symbol} on the link to {where} at {when}")
     return lines + [NOT_PROVED]
 
 
-def travel_data(record: Record) -> dict[str, object]:
-    """The same for --json."""
-    sums = travel(record)
+def figures_data(project: Project, record: Record) -> dict[str, object]:
+    """The same for --json, in metric units."""
+    sums, slow, nodes = travel(record), slowest(record), project.corridor.nodes
     return {
         "vehicle_hours": sums.hours,
         "vehicle_hours_on_links": sums.hours_on_links,
         "vehicle_hours_in_queues": sums.hours_in_queues,
         "vehicle_kilometres": sums.kilometres,
         "mean_speed_kmh": sums.mean_speed,
+        "slowest": None if slow is None else {"id": nodes[slow.node].identifier, "time": project.clock.at(slow.state)},
+        "queues": [
+            {
+                "id": nodes[most.node].identifier,
+                "name": nodes[most.node].name,
+                "longest_units": most.queue,
+                "limit_units": most.limit,
+                "state": most.state,
+                "time": project.clock.at(most.state),
+                "hours_waited": waiting_hours(record, most.node),
+            }
+            for most in greatest_queues(record)
+        ],
     }
-
-
-def queue_data(project: Project, record: Record) -> list[dict[str, object]]:
-    """The longest queues for --json."""
-    nodes = project.corridor.nodes
-    return [
-        {
-            "id": nodes[most.node].identifier,
-            "name": nodes[most.node].name,
-            "queue_units": most.queue,
-            "limit_units": most.limit,
-            "state": most.state,
-            "time": project.clock.at(most.state),
-            "not_proved": {"hours_waited": waiting_hours(record, most.node)},
-        }
-        for most in greatest_queues(record)
-    ]
 
 
 @make_command("simulate", short_help="Simulate a plan: its record, queues and cost.")
@@ -110,19 +116,19 @@ def command(project: str, plan: str, exits: bool, output: str | None) -> Outcome
         if told.work is None:
             raise
         refusal, record = told, Record(told.work, road.corridor, road.clock)
-    written = write_record_to(output, record)
+    written = write_record_to(road, output, record)
     verdict = "VALID" if refusal is None else "NOT VALID"
     said = "within bounds, and every queue within its limit" if refusal is None else str(refusal)
-    lines: list[Shown] = [f"{road.title}: plan {given.name}", f"{verdict}: {said}"]
-    lines += [f"  {line}" for line in (refusal.rest if refusal else [])]
+    lines: list[Shown] = [f"{road.title}: plan {given.name}", *warned(given), f"{verdict}: {said}"]
+    lines += [f"  {line} {MARK}" for line in (refusal.rest if refusal else [])]
     lines += ["", queue_table(road, record), "", *travel_lines(record), *written]
     data = {
         "plan": given.name,
         "verdict": verdict,
         "refusal": refusal.as_json() if refusal else None,
         "cost_units": record.cost,
-        "queues": queue_data(road, record),
-        "not_proved": travel_data(record),
+        "warnings": given.outside(),
+        "not_proved": figures_data(road, record),
         "written": output,
     }
     return Outcome(data, lines, REFUSED if refusal else ACCEPTED, aside=output == STANDARD_OUTPUT)

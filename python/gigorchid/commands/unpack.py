@@ -9,7 +9,7 @@ import click
 
 from ..blocks import load, unpacked
 from ..times import EXPECTED_TIME, Clock, parse_time
-from .base import Outcome, command as make_command, load_project, table, want_empty, write_files
+from .base import Outcome, Unusable, command as make_command, load_project, table, want_empty, write_files
 
 
 def _seconds(text: str) -> Fraction:
@@ -60,9 +60,12 @@ def command(
     called = title if title is not None else model.title if model else ""
     for name in files:
         if not Path(name).is_file():
-            raise click.UsageError(f"there is no file {name}")
+            raise Unusable(f"there is no file {name}")
     want_empty(folder)
-    found = unpacked([load(Path(name)) for name in files], called, begin, seconds, model)
+    try:
+        found = unpacked([load(Path(name)) for name in files], called, begin, seconds, model)
+    except ValueError as error:
+        raise Unusable(str(error)) from None
     write_files(folder, {name: text.encode() for name, text in found.texts.items()})
     rows = [[name, f"{text.count(chr(10)):,}"] for name, text in found.texts.items()]
     data = {"folder": folder, "files": list(found.texts), "links": found.links, "steps": found.steps}
