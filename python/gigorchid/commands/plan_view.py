@@ -37,7 +37,7 @@ def settings_table(plan: Plan) -> Table:
         lowest = limit_text(found.least_limit, found.node, plan) if found.held_steps else ""
         label = plan.corridor.nodes[found.node].label
         rows.append([label, _rates(found, plan.corridor, plan), f"{found.changes:,}", held, lowest])
-    return table(["node", "rate, veh/h", "changes", "steps with a limit", "lowest limit"], rows)
+    return table(["node", "rate, veh/h", "changes", "with a limit", "lowest limit"], rows)
 
 
 def settings_data(plan: Plan) -> list[dict[str, object]]:

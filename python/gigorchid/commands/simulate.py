@@ -44,9 +44,7 @@ def queue_table(project: Project, record: Record) -> Table:
         hours = decimal(waiting_hours(record, most.node), 1)
         label, time = project.corridor.nodes[most.node].label, project.clock.at(most.state)
         rows.append([label, decimal(vehicles(most.queue), 1), limit, share, time, hours])
-    return table(
-        ["ramp", f"longest queue, veh {MARK}", "limit, veh", f"share {MARK}", f"at {MARK}", f"hours {MARK}"], rows
-    )
+    return table(["ramp", f"longest, veh {MARK}", "limit, veh", f"share {MARK}", f"at {MARK}", f"hours {MARK}"], rows)
 
 
 def travel_lines(record: Record) -> list[str]:
