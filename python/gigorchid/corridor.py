@@ -9,7 +9,7 @@ import numpy as np
 
 from . import layout
 from .layout import Words
-from .sheets import Cell, Fault, Row, Sheet, expected, figure, number, whole_number, written
+from .sheets import Cell, Fault, Row, Sheet, expected, figure, identifier, number, written
 from .times import decimal_text
 from .sizes import GREATEST_WORD
 from .units import COUNT, DENSITY, FLOW, LENGTH, PER_LINK, SPEED, SYMBOLS, decimal, factor, fits_word, nearest, tidy
@@ -170,11 +170,11 @@ class _Reader:
     def node(self, row: Row) -> Node:
         """What people call the node, and its link's length."""
         name, length = self.cell(row, "name"), self.cell(row, "length")
-        identifier = whole_number(self.cell(row, "id"), GREATEST_WORD, "an identifier")
+        known = identifier(self.cell(row, "id"))
         metres = number(length, "metres") if length.text else None
         if metres == 0:
             metres = None
-        return Node(identifier, name.text, metres, Cell(self.sheet.name, row.line))
+        return Node(known, name.text, metres, Cell(self.sheet.name, row.line))
 
     def row(self, row: Row, node: Node, first: bool) -> None:
         """Adds the words of one node."""

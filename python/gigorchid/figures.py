@@ -21,16 +21,13 @@ class Travel(NamedTuple):
     hours_on_links: Fraction
     hours_in_queues: Fraction
     kilometres: Fraction | None
+    mean_speed: Fraction | None
+    """In kilometres per hour: the kilometres over the vehicle hours of the steps that they were driven in."""
 
     @property
     def hours(self) -> Fraction:
         """Vehicle hours on links and in queues."""
         return self.hours_on_links + self.hours_in_queues
-
-    @property
-    def mean_speed(self) -> Fraction | None:
-        """Kilometres per hour on the links."""
-        return self.kilometres / self.hours_on_links if self.kilometres and self.hours_on_links else None
 
 
 def travel(record: Record) -> Travel:
@@ -39,10 +36,11 @@ def travel(record: Record) -> Travel:
     on_links, in_queues = (_sum(values[1:]) * hours for values in (record.vehicles, record.queues))
     lengths = [node.length for node in record.corridor.nodes[1:]]
     if None in lengths:
-        return Travel(on_links, in_queues, None)
+        return Travel(on_links, in_queues, None, None)
     left = record.flows[:, 1:].sum(axis=0, dtype=np.uint64).tolist()
     metres = sum((length * flow for length, flow in zip(lengths, left)), Fraction(0))
-    return Travel(on_links, in_queues, metres / (1000 * UNITS_PER_VEHICLE))
+    kilometres, driven = metres / (1000 * UNITS_PER_VEHICLE), _sum(record.vehicles[:-1]) * hours
+    return Travel(on_links, in_queues, kilometres, kilometres / driven if driven else None)
 
 
 def waiting_hours(record: Record, node: int) -> Fraction:

@@ -12,7 +12,7 @@ from . import calls, layout
 from .layout import Places, Words
 from .corridor import Corridor
 from .progress import watched
-from .sheets import Cell, Fault, Row, Sheet, expected, figure, save, state_of, time_of, whole_number, written
+from .sheets import Cell, Fault, Row, Sheet, expected, figure, identifier, save, state_of, time_of, written
 from .times import Clock, format_time
 from .sizes import GREATEST_WORD
 from .units import FLOW, PER_LINK, SPEED, factor, fits_word, nearest, shown
@@ -101,9 +101,10 @@ class SheetSource(PlanSource):
     def said(self, settings: Words) -> Iterable[tuple[Cell, int, int]]:
         """Each cell that sets something, once, with its node and its word."""
         for place, column in self._columns.items():
-            for row in np.unique(self._rows[:, :, place]).tolist():
+            rows, firsts = np.unique(self._rows[:, :, place], return_index=True)
+            for row, first in zip(rows.tolist(), firsts.tolist()):
                 if row != NOT_SAID:
-                    step, node = np.argwhere(self._rows[:, :, place] == row)[0].tolist()
+                    step, node = divmod(first, self._rows.shape[1])
                     yield self.sheet.cell(self.sheet.rows[row], column), node, int(settings[step, node, place])
 
     def unused_rows(self) -> list[Cell]:
@@ -171,7 +172,7 @@ def read_plan(sheet: Sheet, name: str, corridor: Corridor, clock: Clock) -> Plan
 
 
 def _node_of(cell: Cell, corridor: Corridor) -> int:
-    node = corridor.node_of(whole_number(cell, GREATEST_WORD, "an identifier"))
+    node = corridor.node_of(identifier(cell))
     if node is None:
         known = ", ".join(str(node.identifier) for node in corridor.nodes)
         raise expected(cell, f"an identifier of the corridor: {known}")

@@ -11,6 +11,7 @@ from dataclasses import dataclass
 from fractions import Fraction
 from pathlib import Path
 
+from .sizes import GREATEST_WORD
 from .times import EXPECTED_TIME, Clock, parse_time
 from .units import SYMBOLS
 
@@ -228,6 +229,13 @@ def whole_number(cell: Cell, most: int, what: str = "a whole number", named: str
     """The whole number in a cell."""
     if _WHOLE.fullmatch(cell.text) is None or int(cell.text) > most:
         raise expected(cell, f"{what} of 0 to {most:,}" + (f", or {named}" if named else ""))
+    return int(cell.text)
+
+
+def identifier(cell: Cell) -> int:
+    """The identifier in a cell; that it is not zero the library tests."""
+    if _WHOLE.fullmatch(cell.text) is None or int(cell.text) > GREATEST_WORD:
+        raise expected(cell, f"an identifier: a whole number of 1 to {GREATEST_WORD:,}")
     return int(cell.text)
 
 

@@ -83,7 +83,7 @@ def of_file(refusal: Refusal, file: str, place: str, content: bytes, links: int,
     """A refusal of a reader of block files."""
     block = f"block {refusal.row}, bytes {refusal.row * BLOCK_BYTES:,} to {(refusal.row + 1) * BLOCK_BYTES - 1:,},"
     kinds = str(file_kind(place, content)) if refusal.row else " or ".join(map(str, KINDS[place]))
-    found = int.from_bytes(content[refusal.row * BLOCK_BYTES :][:4], "little")
+    first, found = (int.from_bytes(content[at : at + 4], "little") for at in (0, refusal.row * BLOCK_BYTES))
     sentences = {
         1: f"{links:,} links and {steps:,} steps: a file has 1 to {MOST_LINKS} links and 1 to {MOST_STEPS:,} steps, and its own",
         15: f"{block} has a wrong check word: it was changed after it was written",
@@ -179,7 +179,7 @@ def _sizes(refusal: Refusal, project: Project) -> Told:
     one_step = np.concatenate([[1], np.zeros(2 * (project.links + 1))]).astype(np.uint32)
     plan = np.zeros(2 * (project.links + 1), dtype=np.uint32)
     if _refuses(lambda words: calls.simulate_words(words, one_step, plan), project.corridor.words, refusal):
-        wrong = f"{len(project.corridor.nodes)} nodes are {project.links} links: a corridor has 1 to {MOST_LINKS}"
+        wrong = f"the row of node {project.links}, so {project.links} links: a corridor has 1 to {MOST_LINKS}"
         return Told(refusal, wrong, [project.corridor.nodes[-1].cell])
     if _refuses(_ask_demands(project), project.demands.words, refusal):
         wrong = f"{project.steps:,} steps: a project has 1 to {MOST_STEPS:,}"
@@ -233,12 +233,12 @@ def _link_sentence(project: Project, node: int, place: int) -> str:
         return f"{given} on the link to {label}: a link needs more than that, at least one unit"
     if place in (layout.FULL_SPEED, layout.WAVE_SPEED):
         return _too_fast(project, node, place, given)
-    if place == layout.DROPPED_CAPACITY and word <= ONE:
+    if place == layout.DROPPED_CAPACITY:
         return f"the dropped capacity {given} on the link to {label} is above its capacity"
-    if place == layout.DROP_DENSITY and word <= ONE:
+    if place == layout.DROP_DENSITY:
         return f"the drop density {given} on the link to {label} is above its jam density"
     held = tidy(decimal(vehicles(word), 1))
-    if place in (layout.JAM, layout.DROP_DENSITY):
+    if place == layout.JAM:
         parts = ceil(Fraction(word, ONE))
         return f"{given} on the link to {label}: it would hold {held} vehicles, and may hold 1,024; cut it into {parts}"
     return f"{given} on the link to {label}: {held} vehicles per step, and it may be 1,024; take shorter steps"
@@ -289,7 +289,11 @@ def _start(refusal: Refusal, project: Project) -> Told:
     most_at = layout.JAM if place == layout.START_VEHICLES else layout.QUEUE_LIMIT
     start, most = told_apart(vehicles(corridor.word(node, place)), vehicles(corridor.word(node, most_at)))
     label = corridor.nodes[node].label
-    if place == layout.START_VEHICLES:
+    if place == layout.START_VEHICLES and node == 0:
+        sentence = f"{start} vehicles at {label}: the first row is the entry, where no link ends; leave it blank"
+    elif place == layout.START_QUEUE and node == corridor.links:
+        sentence = f"a queue of {start} vehicles at {label}: the last row has no ramp; leave it blank"
+    elif place == layout.START_VEHICLES:
         sentence = f"the link to {label} starts with {start} vehicles, and holds {most}"
     else:
         sentence = f"the queue of {label} starts with {start} vehicles, and its limit is {most}"
@@ -317,7 +321,7 @@ def _demand(refusal: Refusal, project: Project) -> Told:
     else:
         cell, what, fixed = demands.downstream_cell(step), f"what may leave {label}", ""
     given = f"at {time} {what}: {_given(cell, word)}"
-    if word <= ONE:
+    if word <= ONE or (fault <= base + 1 and node == project.links) or (fault == base + 1 and node == 0):
         return Told(refusal, f"{given}; {fixed}", [cell])
     most = "100 %" if fault == base + 1 else "1,024 vehicles per step"
     return Told(refusal, f"{given} is {word:,} units, and may be 65,536, {most}", [cell])
@@ -344,7 +348,7 @@ def _bounds(refusal: Refusal, project: Project, plan: Plan) -> Told:
     elif node == 0:
         sentence = f"at {time} a limit at {label}: the entry has no link to post it on"
     else:
-        limit, most = _both_speeds(word, project.corridor.word(node, layout.FULL_SPEED), node, project)
+        limit, most = _both_speeds(word, node, project, plan.cell(step, node, place))
         sentence = f"at {time} the limit on the link to {label} is {limit}, and its full speed {most}"
     return Told(refusal, sentence, [plan.cell(step, node, place)])
 
@@ -358,13 +362,15 @@ def _both(one: int, other: int, scale: Fraction) -> tuple[str, str]:
     return told_apart(one / scale, other / scale)
 
 
-def _both_speeds(one: int, other: int, node: int, project: Project) -> tuple[str, str]:
-    speeds = [project.corridor.speed(word, node, project.clock.step) for word in (one, other)]
-    if speeds[0] is None or speeds[1] is None:
-        return f"{one:,} units", f"{other:,} units"
-    first, second = told_apart(speeds[0], speeds[1])
-    symbol = SYMBOLS[project.corridor.speeds]
-    return f"{first} {symbol}", f"{second} {symbol}"
+def _both_speeds(limit: int, node: int, project: Project, cell: Cell | None) -> tuple[str, str]:
+    """A limit and the full speed of its link, in the unit in which the limit was given."""
+    full, length = project.corridor.word(node, layout.FULL_SPEED), project.corridor.nodes[node].length
+    if length is None:
+        return f"{limit:,} units", f"{full:,} units"
+    given = cell.column.rpartition("_")[2] if cell is not None else ""
+    ending = given if given in ("kmh", "mph") else project.corridor.speeds
+    first, second = _both(limit, full, factor(ending, project.clock.step, length))
+    return f"{first} {SYMBOLS[ending]}", f"{second} {SYMBOLS[ending]}"
 
 
 def _overflow_of_plan(refusal: Refusal, project: Project, plan: Plan) -> Told:
@@ -401,7 +407,7 @@ def _overflow(refusal: Refusal, project: Project, queue: int) -> str:
 
 
 def overflows(queues: Words, project: Project) -> list[str]:
-    """A sentence for each ramp whose queue passes its limit: when first and last, how long in all, and the most."""
+    """A sentence for each ramp whose queue passes its limit: when first and last, and the most."""
     told = []
     for node, known in enumerate(project.corridor.nodes):
         limit = project.corridor.word(node, layout.QUEUE_LIMIT)
@@ -410,9 +416,9 @@ def overflows(queues: Words, project: Project) -> list[str]:
             most = int(queues[:, node].argmax())
             reached, allowed = told_apart(vehicles(int(queues[most, node])), vehicles(limit))
             first, last, when = (project.clock.at(int(state)) for state in (above[0], above[-1], most))
-            minutes = tidy(decimal(len(above) * project.clock.step / 60, 1))
+            breaks = ", with breaks" if above[-1] - above[0] >= len(above) else ""
             told.append(
-                f"{known.label}: above its limit of {allowed} vehicles from {first} to {last}, {minutes} min in all; "
+                f"{known.label}: above its limit of {allowed} vehicles from {first} to {last}{breaks}; "
                 f"most {reached} at {when}"
             )
     return told

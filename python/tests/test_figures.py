@@ -21,7 +21,7 @@ def test_corridor_b_by_hand() -> None:
     assert sums.hours_in_queues == (30 + 20) * B_HOUR
     assert sums.hours == record.cost * B_HOUR == 370 * B_HOUR
     assert sums.kilometres == Fraction(80 + 100, 64) / 2
-    assert sums.mean_speed == sums.kilometres / sums.hours_on_links
+    assert sums.mean_speed == sums.kilometres / ((200 + 200) * B_HOUR)
     assert [tuple(most) for most in greatest_queues(record)] == [(0, 30, 1000, 1), (1, 50, 200, 0)]
     assert waiting_hours(record, 1) == 20 * B_HOUR
     assert project.corridor.nodes[1].length == 500

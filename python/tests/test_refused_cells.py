@@ -136,7 +136,7 @@ STARTS = {
         ENTRY.replace("none,,", "none,3,"),
         "start_vehicles_veh",
         "3",
-        r"Entry \(10\) starts with 3 vehicles",
+        r"3 vehicles at Entry \(10\).*no link ends",
     ),
     "a queue at the end": row_of(
         4,
@@ -145,7 +145,7 @@ STARTS = {
         HARBOUR.replace("11,,", "11,3,"),
         "start_queue_veh",
         "3",
-        r"Harbour \(40\) starts with 3 vehicles",
+        r"queue of 3 vehicles at Harbour \(40\).*no ramp",
     ),
 }
 NAMELESS = {
@@ -616,7 +616,7 @@ def test_a_limit_just_above_full_speed_is_told_apart_from_it() -> None:
     ]
     refusal, _ = refusal_of(changed(VALLEY, *edits), METERED)
     assert (refusal["refusal"], cells_of(refusal)) == (6, [("plan-metered.csv", 4, "limit_kmh", "90")])
-    limit, full = re.findall(r"([\d.]+) mph", refusal["told"])
+    limit, full = re.findall(r"([\d.]+) km/h", refusal["told"])
     assert Fraction(limit) > Fraction(full)
 
 
@@ -685,11 +685,6 @@ def vehicles(units: int) -> str:
     return f"{tenths // 10}.{tenths % 10}".removesuffix(".0")
 
 
-def minutes(states: int) -> str:
-    """How long so many states of 10 s are, to one decimal, halves up, without a zero at the end."""
-    return vehicles(floor(Fraction(states * 64, 6)))
-
-
 def time(state: int) -> str:
     return f"07:{state // 6:02d}:{10 * state % 60:02d}"
 
@@ -721,7 +716,7 @@ def test_a_plan_with_a_long_queue(command: str, edits: list[Edit], limits: dict[
     assert len(refusal["rest"]) == len(long)
     for sentence, (name, states) in zip(refusal["rest"], long.items()):
         most, at = max((queue, -state) for state, queue in states)
-        for part in (LABELS[name], f" {minutes(len(states))} min in all", time(states[0][0]), time(states[-1][0])):
+        for part in (LABELS[name], time(states[0][0]), time(states[-1][0])):
             assert part in sentence
         assert sentence.endswith(f"most {vehicles(most)} at {time(-at)}") and sentence in printed
 

@@ -11,7 +11,17 @@ commands=(
     'gigorchid --help'
     'gigorchid --version'
     'gigorchid new demo'
-    'gigorchid simulate demo peak'
+    'gigorchid lint demo'
+    'gigorchid simulate demo peak -o demo/record.csv'
+    'gigorchid check demo demo/record.csv'
+    'gigorchid convert demo demo/record.csv -o demo/converted.csv'
+    'gigorchid compare demo:peak demo/converted.csv'
+    'gigorchid normal demo peak -o demo/normal.blocks'
+    'gigorchid search demo demo/record.csv --at 07:20 --ramp 1350'
+    'gigorchid explain 12'
+    'gigorchid pack demo --into blocks'
+    'gigorchid unpack blocks/corridor.blocks blocks/demands.blocks --into again --like demo'
+    'python3 -c "import gigorchid; print(gigorchid.Project.load(\"demo\").simulate(\"peak\").frame().head())"'
     'python3 -c "from gigorchid import library; print(library.path())"'
     "gcc $examples/host.c \$(pkg-config --cflags --libs gigorchid) -o host"
     "./host 2 1 $examples/b/corridor.blocks $examples/b/demands.blocks $examples/b/case1.blocks > plan.txt"
@@ -60,6 +70,13 @@ installed() {
     find "$root" -xdev -path "$root/home" -prune -o -name '*gigorchid*' -printf '/%P\n'
 }
 
+# in_cache: whether the new root's loader knows the library
+in_cache() {
+    local cache
+    cache=$(inside ldconfig --print-cache)
+    grep -q libgigorchid.so.0 <<< "$cache"
+}
+
 echo "== a new Debian 12 from $mirror"
 chmod 755 "$work"
 debootstrap --variant=minbase bookworm "$root" "$mirror" > "$work/log" 2>&1 || { tail "$work/log"; fail "debootstrap failed"; }
@@ -72,7 +89,7 @@ inside apt-get update --quiet=2
 packages install "/root/$(basename "$deb")"
 rm "$root/root/$(basename "$deb")"
 packages install gcc libc6-dev pkg-config
-inside ldconfig --print-cache | grep -q libgigorchid.so.0 || fail "the loader's cache has no libgigorchid.so.0"
+in_cache || fail "the loader's cache has no libgigorchid.so.0"
 [ -d "$root/usr/lib/python3/dist-packages/gigorchid/__pycache__" ] || fail "the Python modules were not compiled"
 
 inside useradd --create-home --shell /bin/bash visitor
@@ -86,9 +103,7 @@ echo "== apt-get remove gigorchid"
 packages remove gigorchid
 left=$(installed)
 [ -z "$left" ] || fail "removing leaves: $left"
-if inside ldconfig --print-cache | grep libgigorchid; then
-    fail "removing leaves the library in the loader's cache"
-fi
+! in_cache || fail "removing leaves the library in the loader's cache"
 
 if command -v lintian > /dev/null; then
     echo "== lintian"
