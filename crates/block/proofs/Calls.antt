@@ -12,10 +12,9 @@ use lib.ListN.{length, getD}
 use Rattle.tables.specs.declared.Answer.{Answer}
 use Rattle.tables.specs.declared.Answer.the-variants.{Accepted}
 use Rattle.tables.specs.Answer.{orElse, sized}
-use Rattle.tables.proofs.Answers.{Refuses, orElse-accepts, orElse-refuses, or-else-stop, or-else-next, left-refused, left-accepted}
+use Rattle.tables.proofs.Answers.{Refuses, orElse-accepts, orElse-refuses, or-else-stop, or-else-next, left-refused, left-accepted, sized-iff}
 use Rattle.tables.proofs.Tests.{and-iff}
 use Rattle.faults.specs.Lists.{within}
-use Rattle.lists.proofs.Limits.{sized-iff}
 use Rattle.block.specs.declared.Kind.{Kind}
 use Rattle.block.specs.declared.Kind.the-variants.{Corridor, CorridorDrop, Demands, DemandsDownstream, Record, RecordExits, Plan}
 use Rattle.payload.specs.Word.{Words}

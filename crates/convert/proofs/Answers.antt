@@ -9,7 +9,7 @@ use lib.Dec.{eqb}
 use Rattle.tables.specs.declared.Answer.{Answer}
 use Rattle.tables.specs.declared.Answer.the-variants.{Accepted}
 use Rattle.tables.specs.Answer.{orElse, refusal, sized}
-use Rattle.tables.proofs.Answers.{Refuses, orElse-accepts, or-else-stop, or-else-next}
+use Rattle.tables.proofs.Answers.{Refuses, orElse-accepts, or-else-stop, or-else-next, sized-iff, sized-refuses}
 use Rattle.tables.proofs.Tests.{and-iff}
 use Rattle.tables.proofs.Sum.{Summed, summed-ended, sum-same}
 use Rattle.road.specs.Corridor.{NodeState}
@@ -19,7 +19,7 @@ use Rattle.faults.proofs.Tests.{both-hold, eq-holds, told-false}
 use Rattle.lists.specs.Words.{linksOf, stepsOf, roadOf, Width, traceOf, exitsOf, traceLength, planLength, recordLength, recordWidth, widthOf}
 use Rattle.lists.specs.Fits.{CorridorFits}
 use Rattle.lists.specs.Refusals.{recordSized, sizes, ranges}
-use Rattle.lists.proofs.Limits.{Sizes, sizes-iff, sized-iff, sized-refuses, ranges-iff}
+use Rattle.lists.proofs.Limits.{Sizes, sizes-iff, ranges-iff}
 use Rattle.lists.proofs.Sizes.{corridor-fits, demands-fit, record-wide, record-sized-iff, width-told}
 use Rattle.simulate_rows.specs.Rows.{rowCost}
 use Rattle.convert.specs.Refusals.{costFault, judged}

@@ -8,11 +8,10 @@ use lib.ListN.{length}
 use Rattle.tables.specs.declared.Answer.{Answer}
 use Rattle.tables.specs.declared.Answer.the-variants.{Accepted}
 use Rattle.tables.specs.Answer.{left, sized}
-use Rattle.tables.proofs.Answers.{Refuses, orElse-accepts, orElse-refuses, or-else-stop}
+use Rattle.tables.proofs.Answers.{Refuses, orElse-accepts, orElse-refuses, or-else-stop, sized-iff, sized-refuses}
 use Rattle.tables.proofs.Tests.{and-iff}
 use Rattle.lists.specs.Words.{linksOf, stepsOf, roadOf, Width, planLength, recordLength, widthOf}
 use Rattle.lists.specs.Refusals.{recordSized, sizes, ranges, planBounds}
-use Rattle.lists.proofs.Limits.{sized-iff, sized-refuses}
 use Rattle.lists.proofs.Sizes.{record-wide, record-sized-iff, width-is}
 use Rattle.lists.proofs.Words.{record-length}
 use Rattle.simulate.specs.Simulate.{simulateSizes, simulateAnswer, simulated, recordLeft}

@@ -10,11 +10,10 @@ use lib.ListN.{length, getD}
 use Rattle.tables.specs.declared.Answer.{Answer}
 use Rattle.tables.specs.declared.Answer.the-variants.{Accepted, Refused}
 use Rattle.tables.specs.Answer.{orElse, sized, left}
-use Rattle.tables.proofs.Answers.{orElse-accepts}
+use Rattle.tables.proofs.Answers.{orElse-accepts, sized-iff}
 use Rattle.tables.proofs.Tabulate.{tabulate-at}
 use Rattle.tables.proofs.Tests.{and-iff}
 use Rattle.lists.specs.Words.{planLength}
-use Rattle.lists.proofs.Limits.{sized-iff}
 use Rattle.convert.specs.Convert.{checkAnswer, converted}
 use Rattle.payload.specs.Word.{Words}
 use Rattle.payload.specs.File.{blocksFor, payloadWord, payloadOf, fileOf}

@@ -11,7 +11,7 @@ use borrow.Author.Tests.{eq-eqb, leb-false, lt-leb}
 use Rattle.tables.specs.Answer.{sized}
 use Rattle.tables.specs.declared.Answer.the-variants.{Accepted, Refused}
 use Rattle.tables.specs.First.{firstPlace}
-use Rattle.tables.proofs.Answers.{orElse-accepts, unless-some}
+use Rattle.tables.proofs.Answers.{orElse-accepts, unless-some, sized-iff}
 use Rattle.tables.proofs.First.{FirstFault, firstPlace-refuses, firstPlace-same}
 use Rattle.road.specs.Corridor.{NodeState, Road, Plan, Trace}
 use Rattle.road.specs.Run.{junction, run}
@@ -23,7 +23,7 @@ use Rattle.settings.proofs.Settings.{named-once}
 use Rattle.lists.specs.Words.{linksOf, stepsOf, roadOf, planOf, planLength, Width, traceOf, widthOf}
 use Rattle.lists.specs.Refusals.{recordSized, bounds, limits}
 use Rattle.faults.proofs.Tests.{eq-holds}
-use Rattle.lists.proofs.Limits.{sized-iff, bounds-iff}
+use Rattle.lists.proofs.Limits.{bounds-iff}
 use Rattle.lists.proofs.Sizes.{record-wide}
 use Rattle.lists.proofs.Words.{plan-same, plan-written, record-read}
 use Rattle.lists.proofs.Fits.{record-fits}

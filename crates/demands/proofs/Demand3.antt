@@ -10,7 +10,7 @@ use lib.Dec.{eqb}
 use borrow.Author.Tests.{eq-eqb}
 use Rattle.tables.specs.declared.Answer.the-variants.{Accepted}
 use Rattle.tables.specs.Answer.{orElse, sized}
-use Rattle.tables.proofs.Answers.{orElse-accepts}
+use Rattle.tables.proofs.Answers.{orElse-accepts, sized-iff}
 use Rattle.road.specs.Corridor.{NodeState, Road}
 use Rattle.road.specs.Run.{junction, run}
 use Rattle.road.specs.Limits.{Limits}
@@ -19,7 +19,7 @@ use Rattle.settings.proofs.Settings.{full-speed-iff}
 use Rattle.lists.specs.Words.{linksOf, stepsOf, roadOf, planOf, planLength, Width, traceOf, recordLength, widthOf}
 use Rattle.lists.specs.Refusals.{recordSized, sizes, ranges, bounds, limits}
 use Rattle.faults.proofs.Tests.{eq-holds}
-use Rattle.lists.proofs.Limits.{sized-iff, bounds-iff, limits-iff}
+use Rattle.lists.proofs.Limits.{bounds-iff, limits-iff}
 use Rattle.lists.proofs.Sizes.{record-wide, record-sized-iff}
 use Rattle.lists.proofs.Words.{plan-length, record-read}
 use Rattle.simulate.specs.Simulate.{simulateSizes, simulateAnswer, ranState, simulated}

@@ -13,7 +13,7 @@ use Rattle.tables.specs.declared.Answer.{Answer}
 use Rattle.tables.specs.declared.Answer.the-variants.{Accepted}
 use Rattle.tables.specs.Answer.{orElse, sized, left}
 use Rattle.tables.specs.Grid.{place}
-use Rattle.tables.proofs.Answers.{orElse-accepts}
+use Rattle.tables.proofs.Answers.{orElse-accepts, sized-iff}
 use Rattle.tables.proofs.Numbers.{le-or-lt}
 use Rattle.tables.proofs.Tests.{and-iff}
 use Rattle.road.specs.Corridor.{Flows, Road, Trace, nodes}
@@ -24,7 +24,6 @@ use Rattle.road.proofs.Runs.{run-last}
 use Rattle.road.proofs.Zeros.{run-last-exit, run-entry-exit, run-end-exit}
 use Rattle.lists.specs.Words.{linksOf, stepsOf, roadOf, planOf, planWords, Width, traceOf, exitAt, nodeWord, traceWord, recordWords, traceLength, planLength, widthOf}
 use Rattle.lists.specs.Refusals.{recordSized, sizes, ranges, bounds, planBounds, limits}
-use Rattle.lists.proofs.Limits.{sized-iff}
 use Rattle.lists.proofs.Sizes.{record-wide}
 use Rattle.lists.proofs.Words.{record-at, record-read, record-cost, record-is, right-said}
 use Rattle.simulate.specs.Simulate.{simulated}

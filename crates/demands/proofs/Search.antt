@@ -12,7 +12,7 @@ use Rattle.tables.specs.declared.Answer.{Answer}
 use Rattle.tables.specs.declared.Answer.the-variants.{Accepted, Refused}
 use Rattle.tables.specs.Answer.{orElse, sized}
 use Rattle.tables.specs.Halving.{ceilLog}
-use Rattle.tables.proofs.Answers.{left-accepted, orElse-accepts}
+use Rattle.tables.proofs.Answers.{left-accepted, orElse-accepts, sized-iff}
 use Rattle.tables.proofs.Numbers.{le-or-lt, not-both}
 use Rattle.tables.proofs.Tests.{and-iff}
 use Rattle.road.specs.Corridor.{Flows}
@@ -26,7 +26,6 @@ use Rattle.settings.proofs.Rates.{rate-finds, search-found}
 use Rattle.settings.proofs.Tries.{promised, reached}
 use Rattle.lists.specs.Words.{linksOf, stepsOf, roadOf}
 use Rattle.lists.specs.Refusals.{recordSized, sizes, ranges, limits}
-use Rattle.lists.proofs.Limits.{sized-iff}
 use Rattle.convert.specs.Convert.{converted, checkAnswer}
 use Rattle.search.specs.Search.{searchAt, foundWord, rateWord, searched, placeAnswer, searchAnswer, searchLeft}
 use Rattle.demands.specs.Demand3.{recorded, recordedFlows, rateAt, limitAt}

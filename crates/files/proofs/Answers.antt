@@ -9,11 +9,10 @@ use lib.ListN.{length}
 use Rattle.tables.specs.declared.Answer.{Answer}
 use Rattle.tables.specs.declared.Answer.the-variants.{Accepted}
 use Rattle.tables.specs.Answer.{orElse, sized}
-use Rattle.tables.proofs.Answers.{Refuses, orElse-accepts, or-else-stop, or-else-next, left-refused, left-accepted}
+use Rattle.tables.proofs.Answers.{Refuses, orElse-accepts, or-else-stop, or-else-next, left-refused, left-accepted, sized-iff}
 use Rattle.tables.proofs.Tests.{and-iff}
 use Rattle.lists.specs.Words.{roadOf, planLength, widthOf}
 use Rattle.lists.specs.Refusals.{ranges}
-use Rattle.lists.proofs.Limits.{sized-iff}
 use Rattle.convert.specs.Refusals.{judged}
 use Rattle.convert.specs.Convert.{checkAnswer}
 use Rattle.convert.proofs.Answers.{check-rest, recordTest}

@@ -9,12 +9,11 @@ use lib.ListN.{length}
 use Rattle.tables.specs.declared.Answer.{Answer}
 use Rattle.tables.specs.declared.Answer.the-variants.{Accepted, Refused}
 use Rattle.tables.specs.Answer.{orElse, left, sized}
-use Rattle.tables.proofs.Answers.{orElse-assoc, orElse-accepts}
+use Rattle.tables.proofs.Answers.{orElse-assoc, orElse-accepts, sized-iff}
 use Rattle.tables.proofs.Grid.{grid-length}
 use Rattle.tables.proofs.Tests.{and-iff}
 use Rattle.lists.specs.Words.{linksOf, stepsOf, roadOf, planLength, planWords}
 use Rattle.lists.specs.Refusals.{recordSized, sizes}
-use Rattle.lists.proofs.Limits.{sized-iff}
 use Rattle.convert.specs.Convert.{convertedBy, converted, recordRefusal, checkAnswer, convertAnswer}
 use Rattle.payload.specs.File.{blocksFor, payloadOf, fileOf}
 use Rattle.block.specs.declared.Kind.{Kind}

@@ -1,6 +1,6 @@
 -- Within limits, as refusals 1 to 6 test it and as facts: each refusal is due exactly where its facts fail.
 use Prim.Native.Nat.{ℕ, zero, suc, _≤_, _<_}
-use mathlib.Core.Bool.{Bool, true, false}
+use mathlib.Core.Bool.{Bool, true}
 use mathlib.Core.List.{List}
 use mathlib.Core.Path.{_≡_, refl, sym, subst}
 use mathlib.Core.Logic.{_↔_, _⊎_}
@@ -13,7 +13,7 @@ use Rattle.tables.specs.Answer.{orElse, sized}
 use Rattle.tables.specs.Least.{least}
 use Rattle.tables.proofs.Numbers.{not-both}
 use Rattle.tables.proofs.Least.{least-below, least-is}
-use Rattle.tables.proofs.Answers.{Refuses, orElse-accepts, refusal-unless}
+use Rattle.tables.proofs.Answers.{orElse-accepts, sized-iff}
 use Rattle.tables.proofs.First.{firstNode-accepts, firstPlace-accepts}
 use Rattle.road.specs.Corridor.{Link, Ramp, Node, Road, Plan, nodes}
 use Rattle.road.specs.Limits.{Within, LinkLimits, NoLink, RampLimits, NoRamp, StartLimits, Identified, DemandLimits, Limits, Bounds, Bounded}
@@ -56,14 +56,6 @@ sizes-iff corridor demands =
       λ e. let h = r .0 e in record { links = h .0; steps = h .1 .0; corridorFits = h .1 .1 .0; demandsFit = h .1 .1 .1 },
       λ s. r .1 (s .links, (s .steps, (s .corridorFits, s .demandsFit))),
     )
-
--- of a test that is all there is to refusal 1
-pub sized-iff : (fits : Bool) → (sized fits ≡ Accepted) ↔ (fits ≡ true)
-sized-iff fits = refusal-unless fits 1 0 0 (λ e. omega arith)
-
-pub sized-refuses : (fits : Bool) → Refuses (sized fits) → fits ≡ false
-sized-refuses true r = absurd r
-sized-refuses false r = refl
 
 -- ---- 2. links
 

@@ -9,10 +9,10 @@ use lib.ListN.{getD, take, drop}
 use Rattle.tables.specs.declared.Answer.{Answer}
 use Rattle.tables.specs.declared.Answer.the-variants.{Accepted}
 use Rattle.tables.specs.Answer.{orElse, refusal}
-use Rattle.tables.specs.First.{first, firstNode}
+use Rattle.tables.specs.First.{firstNode}
 use Rattle.tables.specs.Grid.{place}
 use Rattle.tables.proofs.Answers.{Refuses, orElse-assoc, or-else-stop, or-else-next}
-use Rattle.tables.proofs.First.{Passed, passed-stop, passed-ended, first-same, firstPlace-same}
+use Rattle.tables.proofs.First.{first-same, firstPlace-same}
 use Rattle.tables.proofs.Part.{part-at}
 use Rattle.road.specs.Corridor as Road
 use Rattle.lists.specs.Words.{linksOf, stepsOf, nodeAt, free, roadOf, planOf}
@@ -22,15 +22,6 @@ use Rattle.lists.specs.declared.inner.scans.NodeTest.{NodeTest}
 use Rattle.lists.specs.declared.inner.scans.NodeTest.the-variants.{Link, Ramp, Start, Demand, Plan}
 use Rattle.lists.specs.Fits.{RowFits, NodeIn}
 use Rattle.lists.specs.Scans.{nodeFault, nodeFaultIn, nodeFaultAt, RowFor, corridorRefusal, demandsRefusal, planRefusal}
-
--- ---- nodes: the code counts them as links + 1
-
-pub nodes-stop : (i links : ℕ) (answer : ℕ → Answer) (a : Answer) → Passed i (links + 1) answer → i < links + 1 → a ≡ answer i → Refuses a
-    → a ≡ first (suc links) answer
-nodes-stop i links answer a p h e r = passed-stop i (links + 1) answer a p h e r ∙ ap (λ (n : ℕ). first n answer) (add-one links)
-
-pub nodes-ended : (i links : ℕ) (answer : ℕ → Answer) → Passed i (links + 1) answer → links + 1 ≤ i → Accepted ≡ first (suc links) answer
-nodes-ended i links answer p h = passed-ended i (links + 1) answer p h ∙ ap (λ (n : ℕ). first n answer) (add-one links)
 
 -- ---- rows: row k of (links + 1) * 2 words, that begins `skip` words and k rows into the list, as the code lends it
 

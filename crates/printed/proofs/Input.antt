@@ -12,13 +12,12 @@ use lib.Seq.{take-all, length-take-le}
 use Rattle.tables.specs.declared.Answer.{Answer}
 use Rattle.tables.specs.declared.Answer.the-variants.{Accepted, Refused}
 use Rattle.tables.specs.Answer.{orElse, sized}
-use Rattle.tables.proofs.Answers.{orElse-accepts, refusal-unless}
+use Rattle.tables.proofs.Answers.{orElse-accepts, refusal-unless, sized-iff}
 use Rattle.tables.proofs.Tabulate.{tabulate-at}
 use Rattle.road.specs.Corridor.{Road}
 use Rattle.road.specs.Run.{cost}
 use Rattle.lists.specs.Words.{linksOf, stepsOf, roadOf, traceOf, traceLength, recordLength}
 use Rattle.faults.specs.Lists.{within}
-use Rattle.lists.proofs.Limits.{sized-iff}
 use Rattle.faults.proofs.Tests.{within-holds}
 use Rattle.convert.proofs.Facts.{judged-iff}
 use Rattle.payload.specs.Word.{wordAt}

@@ -10,11 +10,11 @@ use lib.ListN.{length}
 use Rattle.tables.specs.declared.Answer.{Answer}
 use Rattle.tables.specs.declared.Answer.the-variants.{Accepted}
 use Rattle.tables.specs.Answer.{orElse, sized}
-use Rattle.tables.proofs.Answers.{Refuses, orElse-accepts, or-else-stop, or-else-next}
+use Rattle.tables.proofs.Answers.{Refuses, orElse-accepts, or-else-stop, or-else-next, sized-iff}
 use Rattle.lists.specs.Words.{linksOf, stepsOf, roadOf, planOf, planLength, recordLength, widthOf}
 use Rattle.lists.specs.Refusals.{recordSized, sizes, ranges, bounds, planBounds}
 use Rattle.faults.proofs.Tests.{both-hold, eq-holds}
-use Rattle.lists.proofs.Limits.{sizes-iff, sized-iff, ranges-iff, bounds-iff}
+use Rattle.lists.proofs.Limits.{sizes-iff, ranges-iff, bounds-iff}
 use Rattle.lists.proofs.Sizes.{corridor-fits, demands-long, record-sized-iff}
 use Rattle.simulate.specs.Simulate.{simulateSizes, simulateAnswer, Sound}
 

@@ -1,4 +1,4 @@
--- Laws of answers: of `orElse`, of a `refusal` by its number, of `unless`, and of what is `left` of a lent list.
+-- Laws of answers: of `orElse`, of a `refusal` by its number, of `unless`, of `sized`, and of what is `left` of a lent list.
 use mathlib.Core.Bool.{Bool, true, false, true≢false}
 use mathlib.Core.List.{List}
 use mathlib.Core.Logic.{_↔_, _≢_}
@@ -7,7 +7,7 @@ use Prim.Native.Nat.{ℕ, zero, suc, _≤_}
 use native.Mathlib.Omega.{arith}
 use Rattle.tables.specs.declared.Answer.{Answer}
 use Rattle.tables.specs.declared.Answer.the-variants.{Accepted, Refused}
-use Rattle.tables.specs.Answer.{isRefused, orElse, refusal, unless, left, Small, TakenApart}
+use Rattle.tables.specs.Answer.{isRefused, orElse, refusal, unless, sized, left, Small, TakenApart}
 
 abbrev pub Refuses : Answer → Type 0
 Refuses Accepted = ⊥
@@ -93,6 +93,14 @@ unless-some false x y h = (λ e. (refl, e), λ p. p .1)
 pub refusal-unless : (t : Bool) (x row node : ℕ) → x ≢ 0 → (refusal (unless t x) row node ≡ Accepted) ↔ (t ≡ true)
 refusal-unless t x row node h =
     (λ e. unless-none t x h .0 (refusal-accepts (unless t x) row node .0 e), λ e. refusal-accepts (unless t x) row node .1 (unless-none t x h .1 e))
+
+-- of a test that is all there is to refusal 1
+pub sized-iff : (fits : Bool) → (sized fits ≡ Accepted) ↔ (fits ≡ true)
+sized-iff fits = refusal-unless fits 1 0 0 (λ e. omega arith)
+
+pub sized-refuses : (fits : Bool) → Refuses (sized fits) → fits ≡ false
+sized-refuses true r = absurd r
+sized-refuses false r = refl
 
 -- ---- what is left of a lent list: a is the answer as the code has it, and l the list at exit
 

@@ -221,3 +221,12 @@ pub passed-ended : (i n : ℕ) (answer : ℕ → Answer) → Passed i n answer �
 passed-ended i n answer p l =
     let e : i ≡ n = omega arith in
     sym (p .is) ∙ ap (λ (k : ℕ). first k answer) e
+
+-- ---- nodes: the code counts them as links + 1
+
+pub nodes-stop : (i links : ℕ) (answer : ℕ → Answer) (a : Answer) → Passed i (links + 1) answer → i < links + 1 → a ≡ answer i → Refuses a
+    → a ≡ first (suc links) answer
+nodes-stop i links answer a p h e r = passed-stop i (links + 1) answer a p h e r ∙ ap (λ (n : ℕ). first n answer) (add-one links)
+
+pub nodes-ended : (i links : ℕ) (answer : ℕ → Answer) → Passed i (links + 1) answer → links + 1 ≤ i → Accepted ≡ first (suc links) answer
+nodes-ended i links answer p h = passed-ended i (links + 1) answer p h ∙ ap (λ (n : ℕ). first n answer) (add-one links)

@@ -1,9 +1,8 @@
 -- No row before k has a fault.
 use Prim.Native.Nat.{_-_}
-use Rattle.tables.proofs.First.{Passed}
+use Rattle.tables.proofs.First.{Passed, nodes-stop, nodes-ended}
 use borrow.Author.Needs.{needs}
 use Rattle.tables.proofs.Sets.{scans}
-use Rattle.lists.proofs.Scans.{nodes-stop, nodes-ended}
 use Rattle.convert.specs.Rows.{fixedRowRefusal}
 use Rattle.convert.proofs.inner.scans.scan_fixed.Statement.{statement}
 use Rattle.convert.proofs.inner.scans.scan_fixed.Tie as tie

@@ -2,10 +2,9 @@
 use Prim.Native.Nat.{_-_}
 use Rattle.tables.specs.Answer.{refusal}
 use borrow.Author.Needs.{needs}
-use Rattle.tables.proofs.First.{Passed}
+use Rattle.tables.proofs.First.{Passed, nodes-stop, nodes-ended}
 use Rattle.tables.proofs.Sets.{scans}
 use Rattle.lists.proofs.Rows.{node-among}
-use Rattle.lists.proofs.Scans.{nodes-stop, nodes-ended}
 use Rattle.convert_rows.specs.Rows.{fixedFaultIn}
 use Rattle.convert_rows.proofs.inner.rows.fixed_nodes.Statement.{statement}
 use Rattle.convert_rows.proofs.inner.rows.fixed_nodes.Tie as tie

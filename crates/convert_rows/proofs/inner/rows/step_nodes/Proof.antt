@@ -4,7 +4,7 @@ use native.Mathlib.Omega.{arith}
 use borrow.Author.Needs.{needs}
 use Rattle.tables.proofs.Sets.{scans}
 use Rattle.lists.proofs.Rows.{node-among}
-use Rattle.lists.proofs.Scans.{nodes-stop, nodes-ended}
+use Rattle.tables.proofs.First.{nodes-stop, nodes-ended}
 use Rattle.convert_rows.proofs.Steps.{Stepping, stepping-begun, stepping-more, passes-on}
 use Rattle.convert_rows.proofs.inner.rows.step_nodes.Statement.{statement}
 use Rattle.convert_rows.proofs.inner.rows.step_nodes.Tie as tie

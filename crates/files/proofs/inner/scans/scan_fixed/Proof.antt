@@ -2,9 +2,8 @@
 use Prim.Native.Nat.{_-_}
 use native.Mathlib.Omega.{arith}
 use borrow.Author.Needs.{needs}
-use Rattle.tables.proofs.First.{Passed}
+use Rattle.tables.proofs.First.{Passed, nodes-stop, nodes-ended}
 use Rattle.tables.proofs.Sets.{scans}
-use Rattle.lists.proofs.Scans.{nodes-stop, nodes-ended}
 use Rattle.convert.specs.Rows.{fixedRowRefusal}
 use Rattle.file_rows.specs.Words.{recordIn}
 use Rattle.files.proofs.inner.scans.scan_fixed.Statement.{statement}
