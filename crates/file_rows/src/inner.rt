@@ -7,7 +7,7 @@ ghost use Rattle.file_rows.specs.Words.{corridorCount, demandsCount, fil
 ghost use Rattle.file_rows.specs.Rows.{Holds, demandRowIn, downstreamIn, stateRowIn};
 use block::Kind;
 use block::inner::kinds;
-use lists::inner::scans;
+use lists::inner::rows;
 use payload::inner::place;
 use road::Units;
 
@@ -38,7 +38,7 @@ pub fn demand_row(demands: &[u8], links: usize, steps: usize, k: usize, row: &mu
     requires { ⌜ length (now row) ≡ (links + 1) * 2 ⌝ }
     ensures { λ _. ⌜ now (row .exit) ≡ demandRowIn links (now (demands .entry)) k ⌝ }
 {
-    let at = scans::row_at(k, (links + 1) * 2, steps);
+    let at = rows::row_at(k, (links + 1) * 2, steps);
     place::unpack(demands, 1 + at, row);
 }
 
@@ -48,7 +48,7 @@ pub fn downstream(demands: &[u8], links: usize, steps: usize, k: usize) -> Units
     ensures { λ r. ⌜ r .0 ≡ downstreamIn links steps (now (demands .entry)) k ⌝ }
 {
     if kinds::says_later(Kind::Demands, demands) {
-        let rows = scans::table_length(steps, (links + 1) * 2);
+        let rows = rows::table_length(steps, (links + 1) * 2);
         return Units(place::word_of(demands, 1 + rows + k));
     }
     Units(65536)
@@ -67,8 +67,8 @@ pub fn state_row(
     requires { ⌜ length (now row) ≡ suc links * width ⌝ }
     ensures { λ _. ⌜ now (row .exit) ≡ stateRowIn width links (now (recorded .entry)) k ⌝ }
 {
-    let wide = scans::state_words(links, width);
-    let at = scans::row_at(k, wide, steps + 1);
+    let wide = rows::state_words(links, width);
+    let at = rows::row_at(k, wide, steps + 1);
     place::unpack(recorded, at, row);
 }
 

@@ -1,4 +1,5 @@
 // What other crates use of the word lists: most of it asks something of its caller.
 pub mod identifiers;
+pub mod rows;
 pub mod scans;
 pub mod words;

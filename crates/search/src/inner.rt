@@ -11,6 +11,7 @@ ghost use Rattle.convert.specs.Refusals.{judged};
 ghost use Rattle.convert.specs.Rows.{Ready};
 ghost use Rattle.search.specs.Search.{searchWords, placeAnswer};
 ghost use Rattle.search.specs.Places.{PlaceAt};
+use lists::inner::rows;
 use lists::inner::scans;
 use lists::inner::words;
 use road::Flows;
@@ -77,10 +78,10 @@ fn place_at(
     ensures { λ r. ⌜ PlaceAt width (now (corridor .entry)) (now (demands .entry)) (now (words .entry)) step node r ⌝ }
 {
     let narrow = (links + 1) * 2;
-    let wide = scans::state_words(links, width);
-    let at = 1 + scans::row_at(step, narrow, steps);
+    let wide = rows::state_words(links, width);
+    let at = 1 + rows::row_at(step, narrow, steps);
     let end = at + narrow;
-    let from = scans::row_at(step, wide, steps + 1);
+    let from = rows::row_at(step, wide, steps + 1);
     let to = from + wide;
     let downstream = words::downstream_at(demands, links, steps, step);
     let row = &words[from..to];

@@ -7,7 +7,7 @@ ghost use Rattle.lists.specs.Words.{linksOf, stepsOf, roadOf, planLength, width
 ghost use Rattle.convert.specs.Refusals.{judged};
 ghost use Rattle.convert.specs.Convert.{convertedBy, converted};
 ghost use Rattle.convert.specs.Rows.{Ready};
-use lists::inner::scans;
+use lists::inner::rows;
 use lists::inner::words;
 
 // The rows of the plan of a record that is accepted.
@@ -26,14 +26,14 @@ fn write_rows(
     ensures { λ _. ⌜ now (plan .exit) ≡ convertedBy width (now (corridor .entry)) (now (demands .entry)) (now (words .entry)) ⌝ }
 {
     let narrow = (links + 1) * 2;
-    let wide = scans::state_words(links, width);
+    let wide = rows::state_words(links, width);
     let mut k: usize = 0;
     while k < steps {
-        let at = scans::row_at(k, narrow, steps);
+        let at = rows::row_at(k, narrow, steps);
         let end = at + narrow;
         let first = 1 + at;
         let past = first + narrow;
-        let from = scans::row_at(k, wide, steps + 1);
+        let from = rows::row_at(k, wide, steps + 1);
         let to = from + wide;
         convert_rows::inner::plans::plan_row(
             corridor,

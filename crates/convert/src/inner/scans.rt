@@ -15,6 +15,7 @@ ghost use Rattle.convert.specs.Refusals.{costFault, judged};
 ghost use Rattle.convert.specs.Convert.{recordRefusal};
 ghost use Rattle.convert_rows.specs.Rows.{bareRoad};
 ghost use Rattle.convert.specs.Rows.{fixedRowRefusal, fixedRefusal, stepRefusal, stepsRefusal, stateCostAt, Ready};
+use lists::inner::rows;
 use lists::inner::scans;
 use lists::inner::words;
 use tables::Answer;
@@ -66,8 +67,8 @@ fn fixed_at(
     requires { ⌜ (steps ≤ 1440) × (k ≤ steps) × Width width × (length (now words) ≡ recordLength width links steps) ⌝ }
     ensures { λ r. ⌜ r ≡ fixedRowRefusal width (now (corridor .entry)) links steps (now (words .entry)) k ⌝ }
 {
-    let wide = scans::state_words(links, width);
-    let at = scans::row_at(k, wide, steps + 1);
+    let wide = rows::state_words(links, width);
+    let at = rows::row_at(k, wide, steps + 1);
     let end = at + wide;
     convert_rows::inner::rows::fixed_row(corridor, links, steps, k, &words[at..end], width)
 }
@@ -113,12 +114,12 @@ fn step_at(
     ensures { λ r. ⌜ r ≡ stepRefusal width (now (corridor .entry)) (now (demands .entry)) links (now (words .entry)) k ⌝ }
 {
     let narrow = (links + 1) * 2;
-    let wide = scans::state_words(links, width);
-    let at = 1 + scans::row_at(k, narrow, steps);
+    let wide = rows::state_words(links, width);
+    let at = 1 + rows::row_at(k, narrow, steps);
     let end = at + narrow;
-    let from = scans::row_at(k, wide, steps + 1);
+    let from = rows::row_at(k, wide, steps + 1);
     let to = from + wide;
-    let next = scans::row_at(k + 1, wide, steps + 1);
+    let next = rows::row_at(k + 1, wide, steps + 1);
     let last = next + wide;
     convert_rows::inner::rows::step_row(
         k,
@@ -161,8 +162,8 @@ fn cost_at(links: usize, steps: usize, words: &[u32], width: usize, k: usize) ->
     requires { ⌜ (links ≤ 64) × (steps ≤ 1440) × Width width × (length (now words) ≡ recordLength width links steps) × (k < steps) ⌝ }
     ensures { λ r. ⌜ (r ≡ stateCostAt width links steps (now (words .entry)) k) × (r ≤ 558345748350) ⌝ }
 {
-    let wide = scans::state_words(links, width);
-    let at = scans::row_at(k + 1, wide, steps + 1);
+    let wide = rows::state_words(links, width);
+    let at = rows::row_at(k + 1, wide, steps + 1);
     let end = at + wide;
     simulate_rows::inner::row_cost(links, &words[at..end], width)
 }

@@ -10,7 +10,7 @@ ghost use Rattle.file_rows.specs.Words.{corridorCount, demandsIn, recordIn};
 ghost use Rattle.files.specs.Files.{planFile};
 ghost use Rattle.file_rows.specs.Rows.{Holds};
 ghost use Rattle.files.specs.Fits.{FilesFit, Accepts, FilesKept, planRowIn};
-use lists::inner::scans;
+use lists::inner::rows;
 use payload::inner::place;
 use payload::inner::sealing;
 
@@ -30,7 +30,7 @@ fn put_step(
     ensures { λ _. ⌜ (now (plan .exit) ≡ putPayload (now (plan .entry)) (k * ((links + 1) * 2)) (planRowIn width (now (corridor .entry)) links steps (now (demands .entry)) (now (recorded .entry)) k)) × Words (planRowIn width (now (corridor .entry)) links steps (now (demands .entry)) (now (recorded .entry)) k) ⌝ }
 {
     let narrow = (links + 1) * 2;
-    let wide = scans::state_words(links, width);
+    let wide = rows::state_words(links, width);
     let mut demand_room = [0u32; 130];
     let demand = &mut demand_room[..narrow];
     let mut room = [0u32; 325];
@@ -40,7 +40,7 @@ fn put_step(
     let out = &mut plan_room[..narrow];
     let downstream = file_rows::inner::downstream(demands, links, steps, k);
     convert_rows::inner::plans::plan_row(corridor, links, demand, downstream, row, width, out);
-    place::put(plan, scans::row_at(k, narrow, steps), out);
+    place::put(plan, rows::row_at(k, narrow, steps), out);
 }
 
 // The settings of all steps, put into the plan file.
@@ -82,7 +82,7 @@ fn fill_plan(
     place::unpack(corridor, 0, list);
     let width = file_rows::inner::record_width(recorded);
     put_steps(list, demands, links, steps, recorded, width, plan);
-    sealing::seal(4, scans::table_length(steps, (links + 1) * 2), plan);
+    sealing::seal(4, rows::table_length(steps, (links + 1) * 2), plan);
 }
 
 // The plan file of files that the checker accepts.

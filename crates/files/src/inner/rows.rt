@@ -11,6 +11,7 @@ ghost use Rattle.convert.specs.Rows.{fixedRowRefusal, fixedRefusal, stepRefusal
 ghost use Rattle.file_rows.specs.Words.{demandsCount, demandsIn, recordIn};
 ghost use Rattle.file_rows.specs.Rows.{Holds};
 ghost use Rattle.files.specs.Fits.{FilesReady};
+use lists::inner::rows;
 use lists::inner::scans;
 use tables::Answer;
 
@@ -41,7 +42,7 @@ pub fn fixed_at(
     requires { ⌜ (steps ≤ 1440) × Width width × (k ≤ steps) × Holds (recordLength width links steps) (now recorded) ⌝ }
     ensures { λ r. ⌜ r ≡ fixedRowRefusal width (now (corridor .entry)) links steps (recordIn width links steps (now (recorded .entry))) k ⌝ }
 {
-    let wide = scans::state_words(links, width);
+    let wide = rows::state_words(links, width);
     let mut room = [0u32; 325];
     let row = &mut room[..wide];
     file_rows::inner::state_row(recorded, links, steps, width, k, row);
@@ -65,7 +66,7 @@ pub fn step_at(
     ensures { λ r. ⌜ r ≡ stepRefusal width (now (corridor .entry)) (demandsIn links steps (now (demands .entry))) links (recordIn width links steps (now (recorded .entry))) k ⌝ }
 {
     let narrow = (links + 1) * 2;
-    let wide = scans::state_words(links, width);
+    let wide = rows::state_words(links, width);
     let mut demand_room = [0u32; 130];
     let demand = &mut demand_room[..narrow];
     let mut room = [0u32; 325];
@@ -91,7 +92,7 @@ pub fn cost_at(links: usize, steps: usize, recorded: &[u8], width: usize, k: usi
     requires { ⌜ (links ≤ 64) × (steps ≤ 1440) × Width width × (k < steps) × Holds (recordLength width links steps) (now recorded) ⌝ }
     ensures { λ r. ⌜ (r ≡ stateCostAt width links steps (recordIn width links steps (now (recorded .entry))) k) × (r ≤ 558345748350) ⌝ }
 {
-    let wide = scans::state_words(links, width);
+    let wide = rows::state_words(links, width);
     let mut room = [0u32; 325];
     let row = &mut room[..wide];
     file_rows::inner::state_row(recorded, links, steps, width, k + 1, row);

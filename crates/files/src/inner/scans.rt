@@ -115,8 +115,8 @@ fn scan_cost(links: usize, steps: usize, recorded: &[u8], width: usize) -> Answe
     ensures { λ r. ⌜ r ≡ refusal (costFault width (bareRoad [] links steps) (recordIn width links steps (now (recorded .entry)))) 0 0 ⌝ }
 {
     let total = total_cost(links, steps, recorded, width);
-    let wide = scans::state_words(links, width);
-    let at = scans::table_length(steps + 1, wide);
+    let wide = lists::inner::rows::state_words(links, width);
+    let at = lists::inner::rows::table_length(steps + 1, wide);
     let low = place::word_of(recorded, at);
     let high = place::word_of(recorded, at + 1);
     refusal(record_faults::inner::total_fault(total, low, high), 0, 0)

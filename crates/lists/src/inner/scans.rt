@@ -12,6 +12,7 @@ ghost use Rattle.lists.specs.Scans.{lengthsFit, nodeFault, nodeFaultIn, 
 ghost use Rattle.lists.specs.Fits.{CorridorFits, NodeIn};
 ghost use Rattle.lists.specs.declared.inner.scans.NodeTest.the-variants.{Ramp};
 use crate::inner::identifiers;
+use crate::inner::rows;
 use crate::inner::words;
 use road::Units;
 use tables::Answer;
@@ -25,22 +26,6 @@ pub enum NodeTest {
     Start,
     Demand,
     Plan,
-}
-
-// How many words `rows` rows of `width` words have.
-pub fn table_length(rows: usize, width: usize) -> usize
-    requires { ⌜ (rows ≤ 1441) × (width ≤ 325) ⌝ }
-    ensures { λ r. ⌜ r ≡ rows * width ⌝ }
-{
-    rows * width
-}
-
-// Where row k of `rows` rows of `width` words starts, and that it ends within them.
-pub fn row_at(k: usize, width: usize, rows: usize) -> usize
-    requires { ⌜ (k < rows) × (rows ≤ 1441) × (width ≤ 325) ⌝ }
-    ensures { λ r. ⌜ (r ≡ k * width) × (r + width ≤ rows * width) × (r + width ≤ 468325) ⌝ }
-{
-    k * width
 }
 
 // Whether `count` words are a corridor of kind 1 or of kind 10.
@@ -60,7 +45,7 @@ fn demands_sized(links: usize, steps: usize, count: usize) -> bool
     requires { ⌜ (links ≤ 64) × (steps ≤ 1440) ⌝ }
     ensures { λ r. ⌜ r ≡ demandsSized links steps count ⌝ }
 {
-    let short = 1 + table_length(steps, (links + 1) * 2);
+    let short = 1 + rows::table_length(steps, (links + 1) * 2);
     if count == short {
         return true;
     }
@@ -101,20 +86,12 @@ pub fn sizes(corridor: &[u32], demands: &[u32]) -> bool
     )
 }
 
-// How many words a record's row has.
-pub fn state_words(links: usize, width: usize) -> usize
-    requires { ⌜ (links ≤ 64) × Width width ⌝ }
-    ensures { λ r. ⌜ (r ≡ suc links * width) × (r ≤ 325) ⌝ }
-{
-    (links + 1) * width
-}
-
 // How many words a record has.
 pub fn record_length(links: usize, steps: usize, width: usize) -> usize
     requires { ⌜ (links ≤ 64) × (steps ≤ 1440) × Width width ⌝ }
     ensures { λ r. ⌜ r ≡ recordLength width links steps ⌝ }
 {
-    table_length(steps + 1, state_words(links, width)) + 2
+    rows::table_length(steps + 1, rows::state_words(links, width)) + 2
 }
 
 // Whether `count` words are a record of kind 3 or of kind 7.
@@ -277,9 +254,9 @@ fn scan_row(
     ensures { λ r. ⌜ r ≡ firstNode (suc links) k (nodeFaultAt test (now (corridor .entry)) links steps skip (now (list .entry)) k) ⌝ }
 {
     let width = (links + 1) * 2;
-    let at = skip + row_at(k, width, steps);
+    let at = skip + rows::row_at(k, width, steps);
     let end = at + width;
-    let downstream = words::downstream_past(list, skip + table_length(steps, width), k);
+    let downstream = words::downstream_past(list, skip + rows::table_length(steps, width), k);
     scan_nodes(test, k, corridor, links, &list[at..end], downstream)
 }
 

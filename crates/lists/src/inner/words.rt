@@ -8,6 +8,7 @@ ghost use Rattle.road.specs.Values.{linkOf, rampOf, stateOf, junctionOf, flowsO
 ghost use Rattle.lists.specs.Words.{linksOf, stepsOf, corridorLength, byKind, nodeWidth, nodeAt, corridorWord, Width, free, downstreamWord, recordWidth};
 ghost use Rattle.lists.specs.Rows.{stateIn, flowsIn, exitIn, stepRoad};
 ghost use Rattle.lists.specs.Fits.{CorridorFits, DemandsFit, RowFits, NodeIn, JamKept};
+use crate::inner::rows;
 use crate::inner::scans;
 use road::Exit;
 use road::Flows;
@@ -225,7 +226,7 @@ pub fn downstream_at(demands: &[u32], links: usize, steps: usize, k: usize) -> U
     requires { ⌜ DemandsFit (now demands) links steps ⌝ }
     ensures { λ r. ⌜ r .0 ≡ downstreamWord (now (demands .entry)) links steps k ⌝ }
 {
-    let rows = scans::table_length(steps, (links + 1) * 2);
+    let rows = rows::table_length(steps, (links + 1) * 2);
     downstream_past(demands, 1 + rows, k)
 }
 

@@ -16,7 +16,7 @@ ghost use Rattle.printed.specs.Fits.{statedCost};
 ghost use Rattle.printed.specs.Text.{decimal, spaced, refusedLine, headLine, settingLine, filesLine, planLine};
 use crate::inner::input;
 use crate::inner::text;
-use lists::inner::scans;
+use lists::inner::rows;
 use lists::inner::words;
 use payload::inner::place;
 use settings::Setting;
@@ -49,8 +49,8 @@ fn stated_cost(links: usize, steps: usize, recorded: &[u8]) -> u64
     ensures { λ r. ⌜ r ≡ statedCost links steps (now (recorded .entry)) ⌝ }
 {
     let width = file_rows::inner::record_width(recorded);
-    let wide = scans::state_words(links, width);
-    let at = scans::table_length(steps + 1, wide);
+    let wide = rows::state_words(links, width);
+    let at = rows::table_length(steps + 1, wide);
     let low = place::word_of(recorded, at);
     let high = place::word_of(recorded, at + 1);
     (high as u64) * 4294967296 + (low as u64)
@@ -130,7 +130,7 @@ fn setting_of(
     ensures { λ r. ⌜ r ≡ settingAt (roadOf (now (corridor .entry)) (demandsIn links steps (now (demands .entry)))) (traceOf width (roadOf (now (corridor .entry)) (demandsIn links steps (now (demands .entry)))) (recordIn width links steps (now (recorded .entry)))) k i ⌝ }
 {
     let narrow = (links + 1) * 2;
-    let wide = scans::state_words(links, width);
+    let wide = rows::state_words(links, width);
     let mut demand_room = [0u32; 130];
     let demand = &mut demand_room[..narrow];
     let mut room = [0u32; 325];

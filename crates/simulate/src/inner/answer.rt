@@ -3,6 +3,7 @@ ghost use mathlib.Core.Path.{_≡_};
 ghost use Prim.Native.Nat.{_≤_};
 ghost use Rattle.lists.specs.Words.{planLength};
 ghost use Rattle.simulate.specs.Simulate.{simulateSizes, simulateAnswer};
+use lists::inner::rows;
 use lists::inner::scans;
 use lists::inner::words;
 use tables::Answer;
@@ -14,7 +15,7 @@ pub fn plan_length(links: usize, steps: usize) -> usize
     requires { ⌜ (links ≤ 64) × (steps ≤ 1440) ⌝ }
     ensures { λ r. ⌜ r ≡ planLength links steps ⌝ }
 {
-    scans::table_length(steps, (links + 1) * 2)
+    rows::table_length(steps, (links + 1) * 2)
 }
 
 // Whether N, K and all lengths are right; `room` is the length of the lent record.

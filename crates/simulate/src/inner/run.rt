@@ -5,7 +5,7 @@ ghost use lib.ListN.{length};
 ghost use Rattle.lists.specs.Words.{linksOf, stepsOf, Width, traceLength, recordLength, widthOf};
 ghost use Rattle.lists.specs.Fits.{RowFits};
 ghost use Rattle.simulate.specs.Simulate.{Sound, stateRow, runCost, Ran, RanAll, simulated};
-use lists::inner::scans;
+use lists::inner::rows;
 use lists::inner::words;
 
 // Step k: the record's row of it, and the next state in the state's place. It gives the next state's vehicles and queues.
@@ -27,7 +27,7 @@ fn step_at(
     let links = words::links_of(corridor);
     let steps = words::steps_of(demands);
     let narrow = (links + 1) * 2;
-    let at = scans::row_at(k, narrow, steps);
+    let at = rows::row_at(k, narrow, steps);
     let end = at + narrow;
     let from = 1 + at;
     let to = from + narrow;
@@ -95,12 +95,12 @@ fn run_steps(
     ensures { λ r. ⌜ RanAll width (now (corridor .entry)) (now (demands .entry)) (now (plan .entry)) (now (states .exit)) r ⌝ }
 {
     let steps = words::steps_of(demands);
-    let wide = scans::state_words(words::links_of(corridor), width);
+    let wide = rows::state_words(words::links_of(corridor), width);
     let count = steps + 1;
     let mut total: u64 = 0;
     let mut k: usize = 0;
     while k < steps {
-        let at = scans::row_at(k, wide, count);
+        let at = rows::row_at(k, wide, count);
         let end = at + wide;
         total += step_at(
             corridor,
@@ -113,7 +113,7 @@ fn run_steps(
         );
         k += 1;
     }
-    let last = scans::row_at(steps, wide, count);
+    let last = rows::row_at(steps, wide, count);
     let past = last + wide;
     copy_row(state, &mut states[last..past]);
     total
@@ -126,7 +126,7 @@ fn run_all(corridor: &[u32], demands: &[u32], plan: &[u32], states: &mut [u32], 
     ensures { λ r. ⌜ RanAll width (now (corridor .entry)) (now (demands .entry)) (now (plan .entry)) (now (states .exit)) r ⌝ }
 {
     let links = words::links_of(corridor);
-    let wide = scans::state_words(links, width);
+    let wide = rows::state_words(links, width);
     let mut room = [0u32; 325];
     let state = &mut room[..wide];
     simulate_rows::inner::start_row(corridor, links, state, width);

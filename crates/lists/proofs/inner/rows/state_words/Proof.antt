@@ -4,8 +4,8 @@ use native.Mathlib.Nat.{mul-le-mul}
 use native.Mathlib.Omega.{arith}
 use borrow.Author.Needs.{needs}
 use Rattle.lists.specs.Words.{Width}
-use Rattle.lists.proofs.inner.scans.state_words.Statement.{statement}
-use Rattle.lists.proofs.inner.scans.state_words.Tie as tie
+use Rattle.lists.proofs.inner.rows.state_words.Statement.{statement}
+use Rattle.lists.proofs.inner.rows.state_words.Tie as tie
 
 fits : (links width : ℕ) → links ≤ 64 → Width width → suc links * width ≤ 325
 fits links width h w = let few : suc links ≤ 65 = omega arith in omega (arith, mul-le-mul few (w .most))
