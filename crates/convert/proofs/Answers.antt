@@ -18,9 +18,10 @@ use Rattle.record_faults.specs.Records.{fixedFault, totalFault}
 use Rattle.faults.proofs.Tests.{both-hold, eq-holds, told-false}
 use Rattle.lists.specs.Words.{linksOf, stepsOf, roadOf, Width, traceOf, exitsOf, traceLength, planLength, recordLength, recordWidth, widthOf}
 use Rattle.lists.specs.Fits.{CorridorFits}
-use Rattle.lists.specs.Refusals.{recordSized, sizes, ranges}
-use Rattle.lists.proofs.Limits.{Sizes, sizes-iff, ranges-iff}
-use Rattle.lists.proofs.Sizes.{corridor-fits, demands-fit, record-wide, record-sized-iff, width-told}
+use Rattle.lengths.specs.Lengths.{recordSized, sizes}
+use Rattle.list_scans.specs.Refusals.{ranges}
+use Rattle.lengths.proofs.Sizes.{Sizes, sizes-iff, corridor-fits, demands-fit, record-wide, record-sized-iff, width-told}
+use Rattle.list_scans.proofs.Limits.{ranges-iff}
 use Rattle.simulate_rows.specs.Rows.{rowCost}
 use Rattle.convert.specs.Refusals.{costFault, judged}
 use Rattle.convert.specs.Convert.{recordRefusal, recordAnswer, checkAnswer, convertAnswer}

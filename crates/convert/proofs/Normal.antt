@@ -11,8 +11,9 @@ use Rattle.tables.specs.Answer.{left, sized}
 use Rattle.tables.proofs.Answers.{Refuses, orElse-accepts, orElse-refuses, or-else-stop, sized-iff, sized-refuses}
 use Rattle.tables.proofs.Tests.{and-iff}
 use Rattle.lists.specs.Words.{linksOf, stepsOf, roadOf, Width, planLength, recordLength, widthOf}
-use Rattle.lists.specs.Refusals.{recordSized, sizes, ranges, planBounds}
-use Rattle.lists.proofs.Sizes.{record-wide, record-sized-iff, width-is}
+use Rattle.lengths.specs.Lengths.{recordSized, sizes}
+use Rattle.lengths.proofs.Sizes.{record-wide, record-sized-iff, width-is}
+use Rattle.list_scans.specs.Refusals.{ranges, planBounds}
 use Rattle.lists.proofs.Words.{record-length}
 use Rattle.simulate.specs.Simulate.{simulateSizes, simulateAnswer, simulated, recordLeft}
 use Rattle.simulate.proofs.Answers.{accepted-sizes}

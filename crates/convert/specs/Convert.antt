@@ -11,7 +11,8 @@ use Rattle.road.specs.Run.{junction}
 use Rattle.settings.specs.declared.Setting.{Setting}
 use Rattle.settings.specs.Setting.{settingFor, rateIn, limitIn}
 use Rattle.lists.specs.Words.{linksOf, stepsOf, roadOf, planWords, traceOf, planLength, widthOf}
-use Rattle.lists.specs.Refusals.{recordSized, sizes, ranges, planBounds}
+use Rattle.lengths.specs.Lengths.{recordSized, sizes}
+use Rattle.list_scans.specs.Refusals.{ranges, planBounds}
 use Rattle.simulate.specs.Simulate.{simulated}
 use Rattle.convert.specs.Refusals.{judged}
 

@@ -10,8 +10,10 @@ use Rattle.tables.specs.Answer.{orElse, sized, left}
 use Rattle.tables.proofs.Answers.{left-same}
 use Rattle.road.proofs.Roads.{SameRoads}
 use Rattle.lists.specs.Words.{linksOf, stepsOf, roadOf, traceOf, planLength, recordWidth, widthOf}
-use Rattle.lists.specs.Refusals.{recordSized, sizes, ranges, planBounds}
-use Rattle.lists.proofs.Roads.{roads-ranges, roads-bounds, roads-record}
+use Rattle.lengths.specs.Lengths.{recordSized, sizes}
+use Rattle.list_scans.specs.Refusals.{ranges, planBounds}
+use Rattle.lists.proofs.Roads.{roads-record}
+use Rattle.list_scans.proofs.Roads.{roads-ranges, roads-bounds}
 use Rattle.simulate.specs.Simulate.{simulateSizes, simulateAnswer, simulated, recordLeft}
 use Rattle.convert.specs.Refusals.{judged}
 use Rattle.convert.specs.Convert.{convertedBy, converted, normalForm, checkAnswer, convertAnswer, planLeft, normalRefusal, normalAnswer, workLeft, normalLeft}

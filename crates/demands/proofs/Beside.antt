@@ -21,10 +21,11 @@ use Rattle.road.proofs.Same.{SameTraces, cost-same}
 use Rattle.road.proofs.Sizes.{run-state-fits, run-cost}
 use Rattle.settings.proofs.Settings.{named-once}
 use Rattle.lists.specs.Words.{linksOf, stepsOf, roadOf, planOf, planLength, Width, traceOf, widthOf}
-use Rattle.lists.specs.Refusals.{recordSized, bounds, limits}
+use Rattle.lengths.specs.Lengths.{recordSized}
+use Rattle.list_scans.specs.Refusals.{bounds, limits}
 use Rattle.faults.proofs.Tests.{eq-holds}
-use Rattle.lists.proofs.Limits.{bounds-iff}
-use Rattle.lists.proofs.Sizes.{record-wide}
+use Rattle.lengths.proofs.Sizes.{record-wide}
+use Rattle.list_scans.proofs.Limits.{bounds-iff}
 use Rattle.lists.proofs.Words.{plan-same, plan-written, record-read}
 use Rattle.lists.proofs.Fits.{record-fits}
 use Rattle.simulate.specs.Simulate.{simulateAnswer, simulated}

@@ -13,7 +13,8 @@ use Rattle.settings.proofs.Cases.{cases as node-cases}
 use Rattle.payload.proofs.Cases.{cases as file-cases}
 use Rattle.lists.specs.Words.{linksOf, byKind, nodeAt, stepsOf, roadOf, planOf, planWord, planWords, traceOf, exitSaid, recordWidth}
 use Rattle.faults.specs.Lists.{linkFault, rampFault, startFault, demandFault}
-use Rattle.lists.specs.Refusals.{corridorSized, demandsSized, recordSized, sizes, fresh, linkRefusal, rampRefusal, startRefusal, demandRefusal, ranges}
+use Rattle.lengths.specs.Lengths.{corridorSized, demandsSized, recordSized, sizes}
+use Rattle.list_scans.specs.Refusals.{fresh, linkRefusal, rampRefusal, startRefusal, demandRefusal, ranges}
 use Rattle.simulate.proofs.Case.{case-1}
 use Rattle.record_faults.specs.Records.{fixedFault, nextFault, stepFault, totalFault}
 use Rattle.convert.specs.Refusals.{costFault, judged}

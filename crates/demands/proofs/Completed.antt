@@ -13,7 +13,7 @@ use Rattle.tables.proofs.Grid.{place-fits}
 use Rattle.road.proofs.Roads.{SameRoads}
 use Rattle.faults.specs.Lists.{within}
 use Rattle.lists.specs.Words.{linksOf, stepsOf, demandsLength, downstreamLength, downstreamWord, free, roadOf}
-use Rattle.lists.specs.Refusals.{corridorSized, demandsSized, sizes}
+use Rattle.lengths.specs.Lengths.{corridorSized, demandsSized, sizes}
 use Rattle.convert.specs.Convert.{converted, checkAnswer}
 use Rattle.demands.specs.Completed.{completed, SameOnLists}
 use Rattle.demands.proofs.Alike.{alike-lists, alike-checks, alike-plans}

@@ -11,7 +11,7 @@ use Rattle.tables.proofs.Grid.{rowWords-length, rowWords-at}
 use Rattle.road.proofs.Roads.{SameRoads}
 use Rattle.faults.specs.Lists.{within}
 use Rattle.lists.specs.Words.{linksOf, stepsOf, corridorLength, byKind, corridorWord, nodeAt, roadOf}
-use Rattle.lists.specs.Refusals.{corridorSized, demandsSized, sizes}
+use Rattle.lengths.specs.Lengths.{corridorSized, demandsSized, sizes}
 use Rattle.lists.proofs.Corridors.{by-dropped, by-plain}
 use Rattle.convert.specs.Convert.{converted, checkAnswer}
 use Rattle.demands.specs.Completed.{completedWord, completedCorridor, SameOnLists}

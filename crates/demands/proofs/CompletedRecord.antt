@@ -28,9 +28,10 @@ use Rattle.settings.specs.Setting.{settingFor, rateIn, limitIn}
 use Rattle.record_faults.specs.Records.{exitKept, fixedFault, stepFault, totalFault}
 use Rattle.record_faults.proofs.Records.{NoExit, fixed-unsaid, step-unsaid}
 use Rattle.lists.specs.Words.{linksOf, stepsOf, roadOf, planWords, Width, traceOf, exitSaid, exitsOf, traceLength, planLength, recordLength, widthOf}
-use Rattle.lists.specs.Refusals.{recordSized, sizes, ranges}
-use Rattle.lists.proofs.Limits.{sizes-iff, ranges-iff}
-use Rattle.lists.proofs.Sizes.{width-is, record-sized-iff}
+use Rattle.lengths.specs.Lengths.{recordSized, sizes}
+use Rattle.list_scans.specs.Refusals.{ranges}
+use Rattle.lengths.proofs.Sizes.{sizes-iff, width-is, record-sized-iff}
+use Rattle.list_scans.proofs.Limits.{ranges-iff}
 use Rattle.lists.proofs.Words.{plan-same}
 use Rattle.convert.specs.Refusals.{costFault, fixedAt, stepAt, judged}
 use Rattle.convert.specs.Convert.{settingAt, planFor, convertedBy, converted, recordRefusal, recordAnswer, checkAnswer, convertAnswer, planLeft}

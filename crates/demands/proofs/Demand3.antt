@@ -17,10 +17,11 @@ use Rattle.road.specs.Limits.{Limits}
 use Rattle.settings.specs.Share.{Gives, IsSetting}
 use Rattle.settings.proofs.Settings.{full-speed-iff}
 use Rattle.lists.specs.Words.{linksOf, stepsOf, roadOf, planOf, planLength, Width, traceOf, recordLength, widthOf}
-use Rattle.lists.specs.Refusals.{recordSized, sizes, ranges, bounds, limits}
+use Rattle.lengths.specs.Lengths.{recordSized, sizes}
+use Rattle.list_scans.specs.Refusals.{ranges, bounds, limits}
 use Rattle.faults.proofs.Tests.{eq-holds}
-use Rattle.lists.proofs.Limits.{bounds-iff, limits-iff}
-use Rattle.lists.proofs.Sizes.{record-wide, record-sized-iff}
+use Rattle.lengths.proofs.Sizes.{record-wide, record-sized-iff}
+use Rattle.list_scans.proofs.Limits.{bounds-iff, limits-iff}
 use Rattle.lists.proofs.Words.{plan-length, record-read}
 use Rattle.simulate.specs.Simulate.{simulateSizes, simulateAnswer, ranState, simulated}
 use Rattle.convert.specs.Refusals.{judged}

@@ -23,8 +23,9 @@ use Rattle.road.proofs.Rules.{exit-of-none}
 use Rattle.road.proofs.Runs.{run-last}
 use Rattle.road.proofs.Zeros.{run-last-exit, run-entry-exit, run-end-exit}
 use Rattle.lists.specs.Words.{linksOf, stepsOf, roadOf, planOf, planWords, Width, traceOf, exitAt, nodeWord, traceWord, recordWords, traceLength, planLength, widthOf}
-use Rattle.lists.specs.Refusals.{recordSized, sizes, ranges, bounds, planBounds, limits}
-use Rattle.lists.proofs.Sizes.{record-wide}
+use Rattle.lengths.specs.Lengths.{recordSized, sizes}
+use Rattle.lengths.proofs.Sizes.{record-wide}
+use Rattle.list_scans.specs.Refusals.{ranges, bounds, planBounds, limits}
 use Rattle.lists.proofs.Words.{record-at, record-read, record-cost, record-is, right-said}
 use Rattle.simulate.specs.Simulate.{simulated}
 use Rattle.convert.specs.Convert.{planFor, convertedBy, normalForm, normalRefusal, normalAnswer, normalLeft}

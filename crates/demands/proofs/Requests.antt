@@ -12,7 +12,8 @@ use Rattle.settings.specs.Rate.{fullFlows, gives, reaches, candidate, search, r
 use Rattle.settings.specs.Setting.{heldLimit, settingFor}
 use Rattle.lists.specs.Words.{linksOf, byKind, nodeAt, stepsOf, roadOf, planOf, planWord, planWords, nodeWord, traceOf, exitSaid, traceWords, recordWords, recordWidth}
 use Rattle.faults.specs.Lists.{linkFault, rampFault, startFault, demandFault, planFault}
-use Rattle.lists.specs.Refusals.{corridorSized, demandsSized, recordSized, sizes, fresh, linkRefusal, rampRefusal, startRefusal, demandRefusal, ranges, bounds, limits}
+use Rattle.lengths.specs.Lengths.{corridorSized, demandsSized, recordSized, sizes}
+use Rattle.list_scans.specs.Refusals.{fresh, linkRefusal, rampRefusal, startRefusal, demandRefusal, ranges, bounds, limits}
 use Rattle.record_faults.specs.Records.{fixedFault, nextFault, stepFault, totalFault}
 use Rattle.simulate.specs.Simulate.{simulateSizes, simulateAnswer, simulated}
 use Rattle.convert.specs.Refusals.{costFault, judged}

@@ -25,7 +25,8 @@ use Rattle.settings.specs.Share.{Gives, Finds, IsFull, IsHeld, IsSetting}
 use Rattle.settings.proofs.Rates.{rate-finds, search-found}
 use Rattle.settings.proofs.Tries.{promised, reached}
 use Rattle.lists.specs.Words.{linksOf, stepsOf, roadOf}
-use Rattle.lists.specs.Refusals.{recordSized, sizes, ranges, limits}
+use Rattle.lengths.specs.Lengths.{recordSized, sizes}
+use Rattle.list_scans.specs.Refusals.{ranges, limits}
 use Rattle.convert.specs.Convert.{converted, checkAnswer}
 use Rattle.search.specs.Search.{searchAt, foundWord, rateWord, searched, placeAnswer, searchAnswer, searchLeft}
 use Rattle.demands.specs.Demand3.{recorded, recordedFlows, rateAt, limitAt}

@@ -15,7 +15,8 @@ use Rattle.road.specs.Step.{Junction}
 use Rattle.road.specs.Run.{cost}
 use Rattle.settings.specs.Share.{IsSetting}
 use Rattle.lists.specs.Words.{linksOf, stepsOf, roadOf, planOf, traceOf, planLength, Width, recordLength}
-use Rattle.lists.specs.Refusals.{recordSized, bounds}
+use Rattle.lengths.specs.Lengths.{recordSized}
+use Rattle.list_scans.specs.Refusals.{bounds}
 use Rattle.simulate.specs.Simulate.{ranState, simulateAnswer, simulated}
 use Rattle.convert.specs.Refusals.{judged}
 use Rattle.convert.specs.Convert.{converted, normalForm, checkAnswer, convertAnswer, normalAnswer}

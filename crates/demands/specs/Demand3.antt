@@ -11,7 +11,7 @@ use Rattle.road.specs.Step.{Junction}
 use Rattle.road.specs.Run.{junction}
 use Rattle.settings.specs.Share.{Gives, IsSetting}
 use Rattle.lists.specs.Words.{linksOf, stepsOf, roadOf, planOf, traceOf, planLength, Width, recordLength, widthOf}
-use Rattle.lists.specs.Refusals.{bounds}
+use Rattle.list_scans.specs.Refusals.{bounds}
 use Rattle.simulate.specs.Simulate.{ranState, simulated}
 use Rattle.convert.specs.Convert.{converted, normalForm, convertAnswer, normalAnswer}
 

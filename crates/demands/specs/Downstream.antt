@@ -3,7 +3,7 @@ use Prim.Native.Nat.{ℕ}
 use mathlib.Core.List.{List, [], _∷_}
 use mathlib.Core.Path.{_≡_}
 use Rattle.tables.specs.declared.Answer.the-variants.{Accepted, Refused}
-use Rattle.lists.specs.Refusals.{limits}
+use Rattle.list_scans.specs.Refusals.{limits}
 use Rattle.simulate.specs.B.{corridor, demands, plan, record-1}
 use Rattle.simulate.specs.Simulate.{simulateAnswer, simulated}
 use Rattle.convert.specs.Convert.{converted, convertAnswer}

@@ -5,7 +5,7 @@ use mathlib.Core.Path.{_≡_}
 use Rattle.tables.specs.declared.Answer.the-variants.{Accepted, Refused}
 use Rattle.road.specs.Corridor.{Link}
 use Rattle.road.specs.Step.{sending, receiving}
-use Rattle.lists.specs.Refusals.{limits}
+use Rattle.list_scans.specs.Refusals.{limits}
 use Rattle.simulate.specs.B.{corridor, demands, plan, record-1}
 use Rattle.simulate.specs.Simulate.{simulateAnswer, simulated}
 use Rattle.convert.specs.Convert.{converted, convertAnswer}

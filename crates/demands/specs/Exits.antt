@@ -7,7 +7,7 @@ use lib.ListN.{length}
 use Rattle.tables.specs.declared.Answer.the-variants.{Accepted, Refused}
 use Rattle.road.specs.Step.{through}
 use Rattle.lists.specs.Words.{linksOf, stepsOf, roadOf, Width, widthOf}
-use Rattle.lists.specs.Refusals.{recordSized}
+use Rattle.lengths.specs.Lengths.{recordSized}
 use Rattle.simulate.specs.B.{corridor, demands, plan}
 use Rattle.simulate.specs.Simulate.{simulateAnswer, simulated}
 use Rattle.convert.specs.Convert.{normalForm, checkAnswer, normalAnswer, normalLeft}

@@ -7,7 +7,7 @@ use mathlib.Core.Path.{_≡_, refl, ap}
 use native.Mathlib.Omega.{arith}
 use lib.Dec.{eqb}
 use Rattle.lists.specs.Words.{corridorLength}
-use Rattle.lists.proofs.Limits.{CorridorSized}
+use Rattle.lengths.proofs.Sizes.{CorridorSized}
 use Rattle.payload.specs.File.{payloadWord}
 use Rattle.block.specs.declared.Kind.the-variants.{Corridor}
 use Rattle.block.specs.Kinds.{listLength, ownAgrees, later, saysLater, fileKind}

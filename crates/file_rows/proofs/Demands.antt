@@ -10,7 +10,7 @@ use lib.Dec.{eqb}
 use lib.ListN.{getD}
 use Rattle.tables.proofs.Tabulate.{tabulate-at, tabulate-past}
 use Rattle.lists.specs.Words.{demandsLength, downstreamLength, free}
-use Rattle.lists.proofs.Limits.{DemandsSized}
+use Rattle.lengths.proofs.Sizes.{DemandsSized}
 use Rattle.payload.specs.File.{payloadWord}
 use Rattle.block.specs.declared.Kind.the-variants.{Demands, DemandsDownstream}
 use Rattle.block.specs.Kinds.{listLength, ownAgrees, later, saysLater, fileKind}

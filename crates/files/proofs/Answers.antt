@@ -12,7 +12,7 @@ use Rattle.tables.specs.Answer.{orElse, sized}
 use Rattle.tables.proofs.Answers.{Refuses, orElse-accepts, or-else-stop, or-else-next, left-refused, left-accepted, sized-iff}
 use Rattle.tables.proofs.Tests.{and-iff}
 use Rattle.lists.specs.Words.{roadOf, planLength, widthOf}
-use Rattle.lists.specs.Refusals.{ranges}
+use Rattle.list_scans.specs.Refusals.{ranges}
 use Rattle.convert.specs.Refusals.{judged}
 use Rattle.convert.specs.Convert.{checkAnswer}
 use Rattle.convert.proofs.Answers.{check-rest, recordTest}

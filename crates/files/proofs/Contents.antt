@@ -13,11 +13,10 @@ use Rattle.tables.proofs.Tabulate.{tabulate-length, tabulate-at}
 use Rattle.road.specs.Run.{cost}
 use Rattle.record_faults.specs.Records.{totalFault}
 use Rattle.lists.specs.Words.{linksOf, stepsOf, roadOf, traceOf, traceLength, recordLength, widthOf}
-use Rattle.lists.specs.Refusals.{recordSized, sizes, ranges}
+use Rattle.lengths.specs.Lengths.{recordSized, sizes}
+use Rattle.list_scans.specs.Refusals.{ranges}
 use Rattle.lists.specs.Fits.{CorridorFits, DemandsFit}
-use Rattle.lists.proofs.Limits.{CorridorSized, DemandsSized, sizes-iff}
-use Rattle.lists.proofs.Corridors.{sized-words}
-use Rattle.lists.proofs.Sizes.{record-sized-iff, width-is}
+use Rattle.lengths.proofs.Sizes.{CorridorSized, DemandsSized, sizes-iff, sized-words, record-sized-iff, width-is}
 use Rattle.convert.specs.Refusals.{costFault, judged}
 use Rattle.convert_rows.specs.Rows.{bareRoad}
 use Rattle.convert.specs.Rows.{fixedRefusal, stepsRefusal, Ready}

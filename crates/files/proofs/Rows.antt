@@ -9,10 +9,10 @@ use Rattle.tables.specs.declared.Answer.{Answer}
 use Rattle.tables.specs.declared.Answer.the-variants.{Accepted}
 use Rattle.tables.specs.First.{firstNode}
 use Rattle.tables.proofs.Numbers.{row-fits}
-use Rattle.lists.specs.declared.inner.scans.NodeTest.{NodeTest}
+use Rattle.list_scans.specs.declared.inner.NodeTest.{NodeTest}
 use Rattle.lists.specs.Words.{linksOf, free, roadOf, Width, traceOf, exitsOf, recordLength}
-use Rattle.lists.specs.Scans.{nodeFaultIn, nodeFaultAt}
-use Rattle.lists.proofs.Scans.{row-told}
+use Rattle.list_scans.specs.Scans.{nodeFaultIn, nodeFaultAt}
+use Rattle.list_scans.proofs.Scans.{row-told}
 use Rattle.simulate_rows.specs.Rows.{rowCost}
 use Rattle.simulate.proofs.Steps.{DemandRow}
 use Rattle.convert.specs.Refusals.{judged}

@@ -13,7 +13,7 @@ use Rattle.tables.proofs.Answers.{orElse-assoc, orElse-accepts, sized-iff}
 use Rattle.tables.proofs.Grid.{grid-length}
 use Rattle.tables.proofs.Tests.{and-iff}
 use Rattle.lists.specs.Words.{linksOf, stepsOf, roadOf, planLength, planWords}
-use Rattle.lists.specs.Refusals.{recordSized, sizes}
+use Rattle.lengths.specs.Lengths.{recordSized, sizes}
 use Rattle.convert.specs.Convert.{convertedBy, converted, recordRefusal, checkAnswer, convertAnswer}
 use Rattle.payload.specs.File.{blocksFor, payloadOf, fileOf}
 use Rattle.block.specs.declared.Kind.{Kind}

@@ -6,7 +6,7 @@ use Rattle.tables.specs.declared.Answer.{Answer}
 use Rattle.tables.specs.declared.Answer.the-variants.{Accepted}
 use Rattle.tables.specs.Answer.{orElse}
 use Rattle.lists.specs.Words.{roadOf, recordLength}
-use Rattle.lists.specs.Refusals.{ranges}
+use Rattle.list_scans.specs.Refusals.{ranges}
 use Rattle.convert.specs.Refusals.{judged}
 use Rattle.convert_rows.specs.Rows.{planRow}
 use Rattle.convert.specs.Rows.{Ready}

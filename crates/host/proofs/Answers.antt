@@ -19,8 +19,9 @@ use Rattle.road.specs.Step.{Junction, sending, exit, outflow}
 use Rattle.road.specs.Run.{junction, next, cost}
 use Rattle.lists.specs.Words.{linksOf, stepsOf, roadOf, traceOf, exitsOf, planLength, widthOf}
 use Rattle.faults.specs.Lists.{implies, noLink, linkInRange, linkFault, rampFault, startFault, demandFault, planFault}
-use Rattle.lists.specs.Refusals.{recordSized, fresh, linkRefusal, rampRefusal, startRefusal, demandRefusal, ranges, bounds, planBounds, sizes}
-use Rattle.lists.proofs.Limits.{sizes-iff}
+use Rattle.lengths.specs.Lengths.{recordSized, sizes}
+use Rattle.lengths.proofs.Sizes.{sizes-iff}
+use Rattle.list_scans.specs.Refusals.{fresh, linkRefusal, rampRefusal, startRefusal, demandRefusal, ranges, bounds, planBounds}
 use Rattle.simulate.specs.Simulate.{simulateSizes, simulateAnswer, simulated}
 use Rattle.convert.specs.Convert.{recordAnswer, checkAnswer, convertAnswer, normalRefusal, normalAnswer}
 use Rattle.search.specs.Search.{placeAnswer}

@@ -1,18 +1,15 @@
 -- Laws of a corridor's kind, which its length tells, given N: a node's words lie in the list.
 use Prim.Native.Nat.{ℕ, suc, _+_, _*_, _≤_, _<_}
-use mathlib.Core.Bool.{Bool, true, false, cond, _||_}
+use mathlib.Core.Bool.{Bool, true, false, cond}
 use mathlib.Core.Path.{_≡_, sym, ap, _∙_}
 use mathlib.Core.List.{List}
-use mathlib.Core.Logic.{⊎-elim, _⊎_}
 use native.Mathlib.Omega.{arith}
 use borrow.Author.Tests.{eq-eqb, ne-eqb}
 use lib.Dec.{eqb}
 use lib.ListN.{length, getD}
 use Rattle.tables.proofs.Numbers.{row-fits}
 use Rattle.lists.specs.Words.{linksOf, corridorLength, byKind, nodeWidth, corridorWord}
-use Rattle.lists.specs.Refusals.{corridorSized}
 use Rattle.lists.specs.Fits.{CorridorFits}
-use Rattle.lists.proofs.Limits.{CorridorSized}
 
 module _ (links count : ℕ) where
   pub by-dropped : (dropped plain : ℕ) → count ≡ corridorLength 11 links → byKind links count dropped plain ≡ dropped
@@ -41,14 +38,6 @@ module _ (links count : ℕ) where
       by true = omega arith
       by false = h
 
-  -- either kind's length is that of the width which it tells: kind 1 is shorter than kind 10
-  pub sized-words : CorridorSized links count → count ≡ corridorLength (nodeWidth links count) links
-  sized-words s =
-      ⊎-elim
-      (λ (e : count ≡ corridorLength 9 links). e ∙ ap (λ (w : ℕ). corridorLength w links) (sym (by-plain 11 9 (λ d. omega arith))))
-      (λ (e : count ≡ corridorLength 11 links). e ∙ ap (λ (w : ℕ). corridorLength w links) (sym (by-dropped 11 9 e)))
-      s
-
   -- ---- as the code tests it
 
   pub told-dropped : (dropped plain : ℕ) → count ≡ 1 + (links + 1) * 11 → dropped ≡ byKind links count dropped plain
@@ -56,18 +45,6 @@ module _ (links count : ℕ) where
 
   pub told-plain : (dropped plain : ℕ) → (count ≡ 1 + (links + 1) * 11 → ⊥) → plain ≡ byKind links count dropped plain
   told-plain dropped plain h = sym (by-plain dropped plain (λ (e : count ≡ corridorLength 11 links). h (omega arith)))
-
-  pub plain-sized : count ≡ 1 + (links + 1) * 9 → true ≡ corridorSized links count
-  unfolding corridorSized
-  plain-sized h =
-      let e : count ≡ corridorLength 9 links = omega arith in ap (λ (t : Bool). t || eqb count (corridorLength 11 links)) (sym (eq-eqb _ _ e))
-
-  pub dropped-sized : (count ≡ 1 + (links + 1) * 9 → ⊥) → eqb count (1 + (links + 1) * 11) ≡ corridorSized links count
-  unfolding corridorSized
-  dropped-sized h =
-      let long : 1 + (links + 1) * 11 ≡ corridorLength 11 links = omega arith in
-      let other : count ≡ corridorLength 9 links → ⊥ = λ e. h (omega arith) in
-      ap (eqb count) long ∙ ap (λ (t : Bool). t || eqb count (corridorLength 11 links)) (sym (ne-eqb _ _ other))
 
 -- node i's words are in a corridor's list of `count` words
 pub node-fits : (links count i width : ℕ) → i ≤ links → count ≡ corridorLength (nodeWidth links count) links → width ≡ nodeWidth links count

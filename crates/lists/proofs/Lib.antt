@@ -1,10 +1,6 @@
 pub mod Corridors
 pub mod Rows
 pub mod Downstream
-pub mod Identifiers
-pub mod Scans
-pub mod Sizes
-pub mod Limits
 pub mod Words
 pub mod Fits
 pub mod Roads

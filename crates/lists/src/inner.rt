@@ -1,5 +1,3 @@
 // What other crates use of the word lists: most of it asks something of its caller.
-pub mod identifiers;
 pub mod rows;
-pub mod scans;
 pub mod words;

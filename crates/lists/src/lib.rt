@@ -1,2 +1,2 @@
-// The word lists of document 01: reading their words, and refusing them by 1 to 6.
+// The word lists of document 01: where each word stands, and what it says.
 pub mod inner;

@@ -9,8 +9,8 @@ use native.Mathlib.Omega.{arith}
 use lib.ListN.{length}
 use Rattle.tables.specs.declared.Answer.the-variants.{Refused}
 use Rattle.lists.specs.Words.{linksOf}
-use Rattle.lists.specs.Refusals.{sizes}
-use Rattle.lists.proofs.Limits.{sizes-iff}
+use Rattle.lengths.specs.Lengths.{sizes}
+use Rattle.lengths.proofs.Sizes.{sizes-iff}
 use Rattle.simulate.specs.Simulate.{simulateSizes, simulateAnswer, recordLeft}
 use Rattle.convert.specs.Convert.{checkAnswer, convertAnswer, normalRefusal, normalAnswer, planLeft, workLeft, normalLeft}
 use Rattle.nodes.specs.declared.Node.{Node}

@@ -11,7 +11,8 @@ use Rattle.settings.specs.Rate.{fullFlows, gives, rateFor}
 use Rattle.settings.specs.Setting.{heldLimit, settingFor}
 use Rattle.lists.specs.Words.{linksOf, byKind, nodeAt, stepsOf, roadOf, traceOf, exitSaid, recordWidth}
 use Rattle.faults.specs.Lists.{linkFault, rampFault, startFault, demandFault}
-use Rattle.lists.specs.Refusals.{corridorSized, demandsSized, recordSized, sizes, fresh, linkRefusal, rampRefusal, startRefusal, demandRefusal, ranges}
+use Rattle.lengths.specs.Lengths.{corridorSized, demandsSized, recordSized, sizes}
+use Rattle.list_scans.specs.Refusals.{fresh, linkRefusal, rampRefusal, startRefusal, demandRefusal, ranges}
 use Rattle.record_faults.specs.Records.{fixedFault, nextFault, stepFault, totalFault}
 use Rattle.convert.specs.Refusals.{costFault, judged}
 use Rattle.convert.specs.Convert.{settingAt, checkAnswer}

@@ -19,7 +19,7 @@ use Rattle.road.specs.Values.{junctionOf, flowsOf}
 use Rattle.faults.proofs.Tests.{told-true, told-false}
 use Rattle.lists.specs.Words.{linksOf, stepsOf, downstreamWord, roadOf, widthOf}
 use Rattle.lists.specs.Rows.{stateIn, flowsIn, stepRoad}
-use Rattle.lists.specs.Refusals.{sizes}
+use Rattle.lengths.specs.Lengths.{sizes}
 use Rattle.convert.specs.Refusals.{judged}
 use Rattle.convert.specs.Rows.{Ready}
 use Rattle.convert.specs.Convert.{checkAnswer}

@@ -6,13 +6,12 @@ ghost use lib.ListN.{length};
 ghost use lib.Dec.{ltb, leb};
 ghost use Rattle.tables.specs.declared.Answer.the-variants.{Accepted};
 ghost use Rattle.lists.specs.Words.{linksOf, stepsOf, roadOf, widthOf};
-ghost use Rattle.lists.specs.Refusals.{sizes};
+ghost use Rattle.lengths.specs.Lengths.{sizes};
 ghost use Rattle.convert.specs.Refusals.{judged};
 ghost use Rattle.convert.specs.Rows.{Ready};
 ghost use Rattle.search.specs.Search.{searchWords, placeAnswer};
 ghost use Rattle.search.specs.Places.{PlaceAt};
 use lists::inner::rows;
-use lists::inner::scans;
 use lists::inner::words;
 use road::Flows;
 use road::Junction;
@@ -32,7 +31,7 @@ pub struct Place {
 fn place_fits(corridor: &[u32], demands: &[u32], step: u32, node: u32, fits: bool) -> bool
     ensures { λ r. ⌜ r ≡ (sizes (now (corridor .entry)) (now (demands .entry)) && (ltb step (stepsOf (now (demands .entry))) && (leb node (linksOf (now (corridor .entry))) && fits))) ⌝ }
 {
-    if !scans::sizes(corridor, demands) {
+    if !lengths::inner::sizes(corridor, demands) {
         return false;
     }
     if (step as usize) < words::steps_of(demands) {
@@ -108,7 +107,7 @@ pub fn place_of(corridor: &[u32], demands: &[u32], words: &[u32], step: u32, nod
 {
     let links = words::links_of(corridor);
     let steps = words::steps_of(demands);
-    let width = words::record_width(links, steps, words.len());
+    let width = lengths::inner::record_width(links, steps, words.len());
     place_at(
         corridor,
         demands,

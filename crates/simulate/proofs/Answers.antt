@@ -12,10 +12,11 @@ use Rattle.tables.specs.declared.Answer.the-variants.{Accepted}
 use Rattle.tables.specs.Answer.{orElse, sized}
 use Rattle.tables.proofs.Answers.{Refuses, orElse-accepts, or-else-stop, or-else-next, sized-iff}
 use Rattle.lists.specs.Words.{linksOf, stepsOf, roadOf, planOf, planLength, recordLength, widthOf}
-use Rattle.lists.specs.Refusals.{recordSized, sizes, ranges, bounds, planBounds}
+use Rattle.lengths.specs.Lengths.{recordSized, sizes}
+use Rattle.list_scans.specs.Refusals.{ranges, bounds, planBounds}
 use Rattle.faults.proofs.Tests.{both-hold, eq-holds}
-use Rattle.lists.proofs.Limits.{sizes-iff, ranges-iff, bounds-iff}
-use Rattle.lists.proofs.Sizes.{corridor-fits, demands-long, record-sized-iff}
+use Rattle.lengths.proofs.Sizes.{sizes-iff, corridor-fits, demands-long, record-sized-iff}
+use Rattle.list_scans.proofs.Limits.{ranges-iff, bounds-iff}
 use Rattle.simulate.specs.Simulate.{simulateSizes, simulateAnswer, Sound}
 
 -- N and K in range, as the code has them

@@ -9,7 +9,8 @@ use Rattle.road.specs.Step.{discharge, sending, exit, through, offer, receiving
 use Rattle.road.specs.Run.{supply, junction, inflow, next, planFlows, stateAt, noFlow, run, cost}
 use Rattle.lists.specs.Words.{linksOf, byKind, nodeAt, stepsOf, roadOf, planOf, nodeWord, traceWords, recordWords}
 use Rattle.faults.specs.Lists.{linkFault, rampFault, startFault, demandFault, planFault}
-use Rattle.lists.specs.Refusals.{corridorSized, demandsSized, recordSized, sizes, fresh, linkRefusal, rampRefusal, startRefusal, demandRefusal, ranges, bounds}
+use Rattle.lengths.specs.Lengths.{corridorSized, demandsSized, recordSized, sizes}
+use Rattle.list_scans.specs.Refusals.{fresh, linkRefusal, rampRefusal, startRefusal, demandRefusal, ranges, bounds}
 use Rattle.simulate.specs.Simulate.{simulateSizes, simulateAnswer, simulated}
 use Rattle.simulate.specs.B.{Case1}
 

@@ -20,7 +20,7 @@ use Rattle.road.proofs.Rules.{exit-of-none}
 use Rattle.road.proofs.Runs.{run-flows, run-last}
 use Rattle.lists.specs.Words.{linksOf, stepsOf, demandsLength, downstreamWord, roadOf, planOf, Width, nodeWord, traceWord, traceWords, lowHigh, recordWords, traceLength, recordLength, recordWidth, widthOf}
 use Rattle.lists.specs.Fits.{CorridorFits, DemandsFit, RowFits}
-use Rattle.lists.proofs.Sizes.{width-told}
+use Rattle.lengths.proofs.Sizes.{width-told}
 use Rattle.lists.proofs.Words.{trace-length}
 use Rattle.simulate_rows.specs.Rows.{rowOf, startRow, flowRow, nextRow, rowCost, StepKept, RowsFit, Stepped}
 use Rattle.simulate.specs.Simulate.{Sound, stateRow, stepRow, ranCost, runCost, runWords, Ran, RanAll, simulated}

@@ -13,7 +13,8 @@ use Rattle.road.specs.Step.{exit}
 use Rattle.road.specs.Run.{planFlows, stateAt, run, stateCost, cost}
 use Rattle.lists.specs.Words.{linksOf, stepsOf, demandsWord, roadOf, planOf, traceWords, recordWords, demandsLength, planLength, widthOf}
 use Rattle.lists.specs.Fits.{CorridorFits}
-use Rattle.lists.specs.Refusals.{recordSized, sizes, ranges, planBounds}
+use Rattle.lengths.specs.Lengths.{recordSized, sizes}
+use Rattle.list_scans.specs.Refusals.{ranges, planBounds}
 use Rattle.simulate_rows.specs.Rows.{rowOf, restRow}
 
 -- 1. N, K and all lengths are right; `room` is the length of the lent record

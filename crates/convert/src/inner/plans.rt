@@ -57,6 +57,6 @@ pub fn write_plan(corridor: &[u32], demands: &[u32], words: &[u32], plan: &mut [
 {
     let links = words::links_of(corridor);
     let steps = words::steps_of(demands);
-    let width = words::record_width(links, steps, words.len());
+    let width = lengths::inner::record_width(links, steps, words.len());
     write_rows(corridor, demands, links, steps, words, width, plan);
 }

@@ -10,13 +10,12 @@ ghost use Rattle.tables.specs.Answer.{refusal};
 ghost use Rattle.road.specs.Run.{cost};
 ghost use Rattle.lists.specs.Words.{linksOf, stepsOf, roadOf, Width, traceOf, planLength, recordLength, widthOf};
 ghost use Rattle.lists.specs.Fits.{CorridorFits};
-ghost use Rattle.lists.specs.Refusals.{recordSized, sizes};
+ghost use Rattle.lengths.specs.Lengths.{recordSized, sizes};
 ghost use Rattle.convert.specs.Refusals.{costFault, judged};
 ghost use Rattle.convert.specs.Convert.{recordRefusal};
 ghost use Rattle.convert_rows.specs.Rows.{bareRoad};
 ghost use Rattle.convert.specs.Rows.{fixedRowRefusal, fixedRefusal, stepRefusal, stepsRefusal, stateCostAt, Ready};
 use lists::inner::rows;
-use lists::inner::scans;
 use lists::inner::words;
 use tables::Answer;
 use tables::is_refused;
@@ -26,12 +25,12 @@ use tables::refusal;
 pub fn record_fits(corridor: &[u32], demands: &[u32], count: usize) -> bool
     ensures { λ r. ⌜ r ≡ sizes (now (corridor .entry)) (now (demands .entry)) && recordSized (linksOf (now (corridor .entry))) (stepsOf (now (demands .entry))) count ⌝ }
 {
-    if !scans::sizes(corridor, demands) {
+    if !lengths::inner::sizes(corridor, demands) {
         return false;
     }
     let links = words::links_of(corridor);
     let steps = words::steps_of(demands);
-    scans::record_sized(links, steps, count)
+    lengths::inner::record_sized(links, steps, count)
 }
 
 // Whether a plan of `count` words has the length that N and K tell.
@@ -48,7 +47,7 @@ pub fn plan_fits(corridor: &[u32], demands: &[u32], count: usize) -> bool
 pub fn normal_fits(corridor: &[u32], demands: &[u32], count: usize) -> bool
     ensures { λ r. ⌜ r ≡ (sizes (now (corridor .entry)) (now (demands .entry)) && eqb count (planLength (linksOf (now (corridor .entry))) (stepsOf (now (demands .entry))))) ⌝ }
 {
-    if scans::sizes(corridor, demands) {
+    if lengths::inner::sizes(corridor, demands) {
         return plan_fits(corridor, demands, count);
     }
     false
@@ -220,12 +219,12 @@ pub fn contents(corridor: &[u32], demands: &[u32], words: &[u32]) -> Answer
     requires { ⌜ length (now words) ≡ recordLength (widthOf (now corridor) (now demands) (length (now words))) (linksOf (now corridor)) (stepsOf (now demands)) ⌝ }
     ensures { λ r. ⌜ r ≡ recordRefusal (now (corridor .entry)) (now (demands .entry)) (now (words .entry)) ⌝ }
 {
-    let answer = scans::ranges(corridor, demands);
+    let answer = list_scans::inner::ranges(corridor, demands);
     if is_refused(answer) {
         return answer;
     }
     let links = words::links_of(corridor);
     let steps = words::steps_of(demands);
-    let width = words::record_width(links, steps, words.len());
+    let width = lengths::inner::record_width(links, steps, words.len());
     judged(corridor, demands, words, width)
 }

@@ -3,16 +3,15 @@ ghost use mathlib.Core.Path.{_≡_};
 ghost use Prim.Native.Nat.{suc, _≤_, _<_};
 ghost use Rattle.tables.specs.declared.Answer.the-variants.{Accepted};
 ghost use Rattle.tables.specs.First.{firstNode};
-ghost use Rattle.lists.specs.declared.inner.scans.NodeTest.the-variants.{Demand};
+ghost use Rattle.list_scans.specs.declared.inner.NodeTest.the-variants.{Demand};
 ghost use Rattle.lists.specs.Words.{Width, recordLength};
 ghost use Rattle.lists.specs.Fits.{CorridorFits};
-ghost use Rattle.lists.specs.Scans.{nodeFaultAt};
+ghost use Rattle.list_scans.specs.Scans.{nodeFaultAt};
 ghost use Rattle.convert.specs.Rows.{fixedRowRefusal, fixedRefusal, stepRefusal, stepsRefusal, stateCostAt};
 ghost use Rattle.file_rows.specs.Words.{demandsCount, demandsIn, recordIn};
 ghost use Rattle.file_rows.specs.Rows.{Holds};
 ghost use Rattle.files.specs.Fits.{FilesReady};
 use lists::inner::rows;
-use lists::inner::scans;
 use tables::Answer;
 
 // The first node of step k with refusal 5.
@@ -26,7 +25,14 @@ pub fn demand_at(corridor: &[u32], links: usize, steps: usize, demands: &[u8], k
     let row = &mut room[..narrow];
     file_rows::inner::demand_row(demands, links, steps, k, row);
     let downstream = file_rows::inner::downstream(demands, links, steps, k);
-    scans::scan_nodes(scans::NodeTest::Demand, k, corridor, links, row, downstream)
+    list_scans::inner::scan_nodes(
+        list_scans::inner::NodeTest::Demand,
+        k,
+        corridor,
+        links,
+        row,
+        downstream,
+    )
 }
 
 // The first node of state k with refusal 7.

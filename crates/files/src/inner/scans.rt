@@ -7,8 +7,8 @@ ghost use Rattle.tables.specs.Answer.{refusal};
 ghost use Rattle.road.specs.Run.{cost};
 ghost use Rattle.lists.specs.Words.{roadOf, Width, traceOf, recordLength};
 ghost use Rattle.lists.specs.Fits.{CorridorFits, DemandsFit};
-ghost use Rattle.lists.specs.Refusals.{ranges};
-ghost use Rattle.lists.specs.Scans.{demandsRefusal};
+ghost use Rattle.list_scans.specs.Refusals.{ranges};
+ghost use Rattle.list_scans.specs.Scans.{demandsRefusal};
 ghost use Rattle.convert.specs.Refusals.{costFault, judged};
 ghost use Rattle.convert_rows.specs.Rows.{bareRoad};
 ghost use Rattle.convert.specs.Rows.{fixedRefusal, stepsRefusal};
@@ -16,7 +16,6 @@ ghost use Rattle.file_rows.specs.Words.{demandsCount, demandsIn, recordIn};
 ghost use Rattle.file_rows.specs.Rows.{Holds};
 ghost use Rattle.files.specs.Fits.{FilesReady};
 use crate::inner::rows;
-use lists::inner::scans;
 use payload::inner::place;
 use tables::Answer;
 use tables::is_refused;
@@ -46,7 +45,7 @@ pub fn ranges(corridor: &[u32], links: usize, steps: usize, demands: &[u8]) -> A
     requires { ⌜ Holds (demandsCount links steps (now demands)) (now demands) ⌝ }
     ensures { λ r. ⌜ r ≡ ranges (roadOf (now (corridor .entry)) (demandsIn links steps (now (demands .entry)))) ⌝ }
 {
-    let answer = scans::scan_corridor(corridor, links);
+    let answer = list_scans::inner::scan_corridor(corridor, links);
     if is_refused(answer) {
         return answer;
     }

@@ -5,11 +5,10 @@ ghost use Prim.Native.Nat.{ℕ, _+_, _*_, _≤_, _<_};
 ghost use lib.ListN.{length, getD};
 ghost use Rattle.road.specs.Run.{supply, junction};
 ghost use Rattle.road.specs.Values.{linkOf, rampOf, stateOf, junctionOf, flowsOf};
-ghost use Rattle.lists.specs.Words.{linksOf, stepsOf, corridorLength, byKind, nodeWidth, nodeAt, corridorWord, Width, free, downstreamWord, recordWidth};
+ghost use Rattle.lists.specs.Words.{linksOf, stepsOf, corridorLength, byKind, nodeWidth, nodeAt, corridorWord, Width, free, downstreamWord};
 ghost use Rattle.lists.specs.Rows.{stateIn, flowsIn, exitIn, stepRoad};
 ghost use Rattle.lists.specs.Fits.{CorridorFits, DemandsFit, RowFits, NodeIn, JamKept};
 use crate::inner::rows;
-use crate::inner::scans;
 use road::Exit;
 use road::Flows;
 use road::Junction;
@@ -131,17 +130,6 @@ pub fn start_at(corridor: &[u32], links: usize, i: usize) -> NodeState
         vehicles: Units(node_word(corridor, links, i, 7)),
         queue: Units(node_word(corridor, links, i, 8)),
     }
-}
-
-// How many words a node has in a record of `count` words: 5 where that is the length of kind 7, and else 4.
-pub fn record_width(links: usize, steps: usize, count: usize) -> usize
-    requires { ⌜ (links ≤ 64) × (steps ≤ 1440) ⌝ }
-    ensures { λ r. ⌜ (r ≡ recordWidth links steps count) × Width r ⌝ }
-{
-    if count == scans::record_length(links, steps, 5) {
-        return 5;
-    }
-    4
 }
 
 // The state of node i in a record's row.

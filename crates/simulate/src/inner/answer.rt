@@ -4,7 +4,6 @@ ghost use Prim.Native.Nat.{_≤_};
 ghost use Rattle.lists.specs.Words.{planLength};
 ghost use Rattle.simulate.specs.Simulate.{simulateSizes, simulateAnswer};
 use lists::inner::rows;
-use lists::inner::scans;
 use lists::inner::words;
 use tables::Answer;
 use tables::is_refused;
@@ -22,11 +21,11 @@ pub fn plan_length(links: usize, steps: usize) -> usize
 fn fits(corridor: &[u32], demands: &[u32], plan: &[u32], room: usize) -> bool
     ensures { λ r. ⌜ r ≡ simulateSizes (now (corridor .entry)) (now (demands .entry)) (now (plan .entry)) room ⌝ }
 {
-    if scans::sizes(corridor, demands) {
+    if lengths::inner::sizes(corridor, demands) {
         let links = words::links_of(corridor);
         let steps = words::steps_of(demands);
         if plan.len() == plan_length(links, steps) {
-            return scans::record_sized(links, steps, room);
+            return lengths::inner::record_sized(links, steps, room);
         }
         return false;
     }
@@ -41,9 +40,9 @@ pub fn refused(corridor: &[u32], demands: &[u32], plan: &[u32], room: usize) -> 
     if is_refused(size) {
         return size;
     }
-    let answer = scans::ranges(corridor, demands);
+    let answer = list_scans::inner::ranges(corridor, demands);
     if is_refused(answer) {
         return answer;
     }
-    scans::bounds(corridor, demands, plan)
+    list_scans::inner::bounds(corridor, demands, plan)
 }

@@ -141,7 +141,7 @@ pub fn write_record(corridor: &[u32], demands: &[u32], plan: &[u32], output: &mu
 {
     let links = words::links_of(corridor);
     let steps = words::steps_of(demands);
-    let width = words::record_width(links, steps, output.len());
+    let width = lengths::inner::record_width(links, steps, output.len());
     let end = output.len() - 2;
     let total = run_all(corridor, demands, plan, &mut output[..end], width);
     output[end] = (total % 4294967296) as u32;

@@ -1,7 +1,7 @@
 -- Kind 5 has the word after its rows, and kind 2 has none.
 use native.Mathlib.Omega.{arith}
 use borrow.Author.Needs.{needs}
-use Rattle.lists.proofs.Sizes.{rows-few}
+use Rattle.lengths.proofs.Sizes.{rows-few}
 use Rattle.file_rows.proofs.Demands.{downstream-ends, downstream-read, downstream-none}
 use Rattle.file_rows.proofs.inner.downstream.Statement.{statement}
 use Rattle.file_rows.proofs.inner.downstream.Tie as tie

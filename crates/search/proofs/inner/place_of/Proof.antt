@@ -3,7 +3,7 @@ use Prim.Native.Nat.{ℕ}
 use mathlib.Core.Path.{subst, _∙_}
 use native.Mathlib.Omega.{arith}
 use borrow.Author.Needs.{needs}
-use Rattle.lists.proofs.Sizes.{width-told}
+use Rattle.lengths.proofs.Sizes.{width-told}
 use Rattle.convert.proofs.Answers.{ready-as, ready-by, judged-by}
 use Rattle.search.specs.Places.{PlaceAt}
 use Rattle.search.proofs.inner.place_of.Statement.{statement}

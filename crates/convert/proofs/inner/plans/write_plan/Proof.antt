@@ -4,7 +4,7 @@ use mathlib.Core.Path.{ap, _∙_}
 use native.Mathlib.Omega.{arith}
 use denote.Ref.{now}
 use borrow.Author.Needs.{needs}
-use Rattle.lists.proofs.Sizes.{plan-length-as, width-told}
+use Rattle.lengths.proofs.Sizes.{plan-length-as, width-told}
 use Rattle.convert.specs.Convert.{convertedBy}
 use Rattle.convert.proofs.Answers.{ready-as, ready-by, judged-by}
 use Rattle.convert.proofs.inner.plans.write_plan.Statement.{statement}

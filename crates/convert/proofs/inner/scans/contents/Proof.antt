@@ -3,7 +3,7 @@ use borrow.Author.Needs.{needs}
 use mathlib.Core.Path.{_∙_}
 use Rattle.tables.proofs.Answers.{told-accepted, or-else-next}
 use Rattle.tables.proofs.Sets.{joins}
-use Rattle.lists.proofs.Sizes.{demands-fit}
+use Rattle.lengths.proofs.Sizes.{demands-fit}
 use Rattle.convert.proofs.Answers.{ready, ready-by, judged-by}
 use Rattle.convert.proofs.inner.scans.contents.Statement.{statement}
 use Rattle.convert.proofs.inner.scans.contents.Tie as tie

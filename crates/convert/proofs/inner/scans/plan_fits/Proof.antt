@@ -1,7 +1,7 @@
 -- By the length that N and K tell.
 use Prim.Native.Nat.{_≤_}
 use borrow.Author.Needs.{needs}
-use Rattle.lists.proofs.Sizes.{demands-fit}
+use Rattle.lengths.proofs.Sizes.{demands-fit}
 use Rattle.convert.proofs.Answers.{plan-count}
 use Rattle.convert.proofs.inner.scans.plan_fits.Statement.{statement}
 use Rattle.convert.proofs.inner.scans.plan_fits.Tie as tie

@@ -2,7 +2,7 @@
 use Prim.Native.Nat.{_≤_}
 use borrow.Author.Needs.{needs}
 use Rattle.faults.proofs.Tests.{told-true}
-use Rattle.lists.proofs.Sizes.{demands-fit}
+use Rattle.lengths.proofs.Sizes.{demands-fit}
 use Rattle.convert.proofs.Answers.{record-unsized, record-count}
 use Rattle.convert.proofs.inner.scans.record_fits.Statement.{statement}
 use Rattle.convert.proofs.inner.scans.record_fits.Tie as tie

@@ -2,7 +2,7 @@
 use native.Mathlib.Omega.{arith}
 use lib.ListN.{length-take}
 use borrow.Author.Needs.{needs}
-use Rattle.lists.proofs.Scans.{row-for}
+use Rattle.list_scans.proofs.Scans.{row-for}
 use Rattle.file_rows.proofs.Rows.{demand-length}
 use Rattle.files.proofs.Rows.{demand-found}
 use Rattle.files.proofs.inner.rows.demand_at.Statement.{statement}

@@ -1,7 +1,7 @@
 -- The corridor decides, then the demands.
 use borrow.Author.Needs.{needs}
 use Rattle.tables.proofs.Answers.{told-refused, told-accepted}
-use Rattle.lists.proofs.Scans.{ranges-stop, ranges-next}
+use Rattle.list_scans.proofs.Scans.{ranges-stop, ranges-next}
 use Rattle.files.proofs.inner.scans.ranges.Statement.{statement}
 use Rattle.files.proofs.inner.scans.ranges.Tie as tie
 

@@ -4,8 +4,8 @@ use borrow.Author.Needs.{needs}
 use Rattle.tables.specs.First.{firstNode}
 use Rattle.tables.proofs.First.{Passed}
 use Rattle.tables.proofs.Sets.{scans}
-use Rattle.lists.specs.declared.inner.scans.NodeTest.the-variants.{Demand}
-use Rattle.lists.specs.Scans.{nodeFaultAt}
+use Rattle.list_scans.specs.declared.inner.NodeTest.the-variants.{Demand}
+use Rattle.list_scans.specs.Scans.{nodeFaultAt}
 use Rattle.file_rows.specs.Words.{demandsIn}
 use Rattle.files.proofs.inner.scans.scan_demands.Statement.{statement}
 use Rattle.files.proofs.inner.scans.scan_demands.Tie as tie

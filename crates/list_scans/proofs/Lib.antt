@@ -1,0 +1,4 @@
+pub mod Identifiers
+pub mod Scans
+pub mod Limits
+pub mod Roads

@@ -1,8 +1,0 @@
--- By the lengths as numbers.
-use borrow.Author.Needs.{needs}
-use Rattle.lists.proofs.Sizes.{sizes-are}
-use Rattle.lists.proofs.inner.scans.sizes.Statement.{statement}
-use Rattle.lists.proofs.inner.scans.sizes.Tie as tie
-
-pub sizes-spec : {M : Type 1} → statement M
-sizes-spec = tie.close (tie.spec (λ c κs. search needs) (λ c κs. search needs) (λ c κs. search needs) (λ c. search sizes-are))
