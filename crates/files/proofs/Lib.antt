@@ -1,4 +1,3 @@
-pub mod Rows
 pub mod Contents
 pub mod Plans
 pub mod Answers

@@ -23,7 +23,7 @@ use Rattle.file_rows.specs.Words.{corridorCount, corridorIn, demandsIn, fileWid
 use Rattle.files.specs.Files.{planFile}
 use Rattle.file_rows.specs.Rows.{Holds, demandRowIn, downstreamIn, stateRowIn}
 use Rattle.files.specs.Fits.{FilesFit, planRowIn}
-use Rattle.files.proofs.Rows.{demand-part, state-part}
+use Rattle.file_scans.proofs.Rows.{demand-part, state-part}
 use Rattle.files.proofs.Contents.{corridor-read, read-width}
 
 -- ---- as a loop's invariant: the first k rows stand in the file

@@ -9,11 +9,11 @@ use Rattle.lists.specs.Words.{roadOf, recordLength}
 use Rattle.list_scans.specs.Refusals.{ranges}
 use Rattle.convert.specs.Refusals.{judged}
 use Rattle.convert_rows.specs.Rows.{planRow}
-use Rattle.convert.specs.Rows.{Ready}
 use Rattle.payload.specs.File.{payloadWord}
 use Rattle.block.specs.Kinds.{Told}
 use Rattle.file_rows.specs.Words.{corridorCount, corridorIn, demandsCount, demandsIn, fileWidth, recordIn}
 use Rattle.file_rows.specs.Rows.{Holds, demandRowIn, downstreamIn, stateRowIn}
+use Rattle.file_scans.specs.Fits.{FilesReady}
 
 -- N and K are good, the three files have their blocks, and their own N and K are as told
 pub record FilesFit (links steps : ℕ) (corridor demands recorded : List ℕ) : Type 0 where
@@ -42,13 +42,7 @@ planRowIn width corridor links steps demands recorded k =
 
 -- ---- what is asked of the files once the corridor's words are unpacked
 
--- 1 to 5 are not due, and both files have their blocks, the record's with `width` words for each node
-pub record FilesReady (width links steps : ℕ) (corridor demands recorded : List ℕ) : Type 0 where
-  pub ready : Ready width corridor (demandsIn links steps demands) (recordIn width links steps recorded) links steps
-  pub demandsHold : Holds (demandsCount links steps demands) demands
-  pub recordHolds : Holds (recordLength width links steps) recorded
-
--- and 7 to 13 are not
+-- 1 to 5 and 7 to 13 are not due, and both files have their blocks
 pub record FilesKept (width links steps : ℕ) (corridor demands recorded : List ℕ) : Type 0 where
   pub files : FilesReady width links steps corridor demands recorded
   pub judges : judged width (roadOf corridor (demandsIn links steps demands)) (recordIn width links steps recorded) ≡ Accepted

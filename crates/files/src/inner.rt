@@ -1,5 +1,3 @@
-// What asks something of its caller: what is found in the rows of one step, in all steps, and the plan file.
+// What asks something of its caller: the answers to the files and to the words in them, and the plan file.
 pub mod answers;
 pub mod plans;
-pub mod rows;
-pub mod scans;

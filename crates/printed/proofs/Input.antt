@@ -32,7 +32,8 @@ use Rattle.files.specs.Files.{readThenCheck}
 use Rattle.file_rows.specs.Rows.{Holds}
 use Rattle.files.specs.Fits.{FilesFit, Accepts}
 use Rattle.files.proofs.Answers.{accepts}
-use Rattle.files.proofs.Contents.{own-links, own-steps, cost-inside}
+use Rattle.files.proofs.Contents.{own-links, own-steps}
+use Rattle.file_scans.proofs.Scans.{cost-inside}
 use Rattle.printed.specs.declared.inner.input.Layout.{Layout}
 use Rattle.printed.specs.Input.{linksIn, stepsIn, demandsBlock, demandsKind, recordBlock, recordKind, endBlock, corridorFile, demandsFile, recordFile, inputAnswer}
 use Rattle.printed.specs.Text.{refusedLine, textFor, printed}

@@ -11,7 +11,6 @@ ghost use Rattle.block.specs.Calls.{toldFits};
 ghost use Rattle.file_rows.specs.Words.{corridorCount};
 ghost use Rattle.files.specs.Files.{filesAnswer, readThenCheck};
 ghost use Rattle.files.specs.Fits.{FilesFit, wordsAnswer};
-use crate::inner::scans;
 use block::Kind;
 use block::inner::calls;
 use block::inner::kinds;
@@ -64,12 +63,12 @@ fn contents(
     ensures { λ r. ⌜ r ≡ wordsAnswer links steps (now (corridor .entry)) (now (demands .entry)) (now (recorded .entry)) ⌝ }
 {
     place::unpack(corridor, 0, list);
-    let answer = scans::ranges(list, links, steps, demands);
+    let answer = file_scans::inner::ranges(list, links, steps, demands);
     if is_refused(answer) {
         return answer;
     }
     let width = file_rows::inner::record_width(recorded);
-    scans::judged(list, demands, links, steps, recorded, width)
+    file_scans::inner::judged(list, demands, links, steps, recorded, width)
 }
 
 // All that the checker refuses where N and K are good.

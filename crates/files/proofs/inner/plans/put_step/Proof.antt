@@ -2,7 +2,7 @@
 use native.Mathlib.Omega.{arith}
 use lib.ListN.{length-take}
 use borrow.Author.Needs.{needs}
-use Rattle.files.proofs.Rows.{plan-keeps, plan-sends}
+use Rattle.file_scans.proofs.Rows.{plan-keeps, plan-sends}
 use Rattle.files.proofs.Plans.{put-fits, put-told}
 use Rattle.files.proofs.inner.plans.put_step.Statement.{statement}
 use Rattle.files.proofs.inner.plans.put_step.Tie as tie

@@ -3,7 +3,7 @@ use mathlib.Core.Path.{_∙_}
 use native.Mathlib.Omega.{arith}
 use lib.ListN.{length-take}
 use borrow.Author.Needs.{needs}
-use Rattle.files.proofs.Rows.{plan-keeps, plan-sends, setting-found}
+use Rattle.file_scans.proofs.Rows.{plan-keeps, plan-sends, setting-found}
 use Rattle.printed.proofs.inner.lines.setting_of.Statement.{statement}
 use Rattle.printed.proofs.inner.lines.setting_of.Tie as tie
 
