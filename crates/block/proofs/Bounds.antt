@@ -7,7 +7,7 @@ use native.Mathlib.Omega.{arith}
 use lib.Dec.{eqb}
 use lib.ListN.{length, getD}
 use Rattle.payload.specs.File.{blocksFor, payloadWord}
-use Rattle.payload.proofs.Bounds.{Bounded, tested-bounded, orElse-bounded, payload-bounded}
+use Rattle.seals.proofs.Bounds.{Bounded, tested-bounded, orElse-bounded, payload-bounded}
 use Rattle.block.specs.declared.Kind.{Kind}
 use Rattle.block.specs.Kinds.{kindNumber, listLength, ownAgrees}
 use Rattle.block.specs.Calls.{toldFits, fileAnswer, readAnswer, writeAnswer}

@@ -19,11 +19,11 @@ use Rattle.block.specs.declared.Kind.{Kind}
 use Rattle.block.specs.declared.Kind.the-variants.{Corridor, CorridorDrop, Demands, DemandsDownstream, Record, RecordExits, Plan}
 use Rattle.payload.specs.Word.{Words}
 use Rattle.payload.specs.File.{blocksFor, payloadWord, payloadPart, payloadOf, putPayload, fileOf}
-use Rattle.payload.specs.Reading.{payloadAnswer}
+use Rattle.seals.specs.Reading.{payloadAnswer}
 use Rattle.block.specs.Kinds.{Told, kindNumber, listLength, ownAgrees}
 use Rattle.block.specs.Calls.{toldFits, fileAnswer, readAnswer, wordsRead, writeAnswer, fileWritten}
 use Rattle.payload.proofs.Payloads.{payload-all, payload-put-all, put-length-same}
-use Rattle.payload.proofs.Refusals.{payload-kept}
+use Rattle.seals.proofs.Refusals.{payload-kept}
 
 -- ---- tests
 

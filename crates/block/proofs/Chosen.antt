@@ -19,7 +19,7 @@ use Rattle.payload.specs.Word.{Bytes, Words}
 use Rattle.payload.specs.Block.{bodyWord, blockWord, blockByte}
 use Rattle.payload.specs.File.{blocksFor, payloadIn, payloadWord, payloadOf, fileOf, OneChange}
 use Rattle.payload.proofs.Words.{word-is}
-use Rattle.payload.proofs.Files.{file-length}
+use Rattle.seals.proofs.Files.{file-length}
 use Rattle.block.specs.declared.Kind.{Kind}
 use Rattle.block.specs.declared.Kind.the-variants.{Corridor, CorridorDrop, Demands, DemandsDownstream, Record, RecordExits, Plan}
 use Rattle.block.specs.Kinds.{Told, kindNumber, listLength, later, kindWord, saysLater, fileKind, listKind}

@@ -14,11 +14,11 @@ use Rattle.block.specs.declared.Kind.{Kind}
 use Rattle.block.specs.declared.Kind.the-variants.{Corridor, CorridorDrop, Demands, DemandsDownstream, Record, RecordExits, Plan}
 use Rattle.payload.specs.Word.{Bytes, Words}
 use Rattle.payload.specs.File.{blocksFor, fileOf, payloadWord, payloadOf, OneChange}
-use Rattle.payload.specs.Reading.{payloadAnswer}
+use Rattle.seals.specs.Reading.{payloadAnswer}
 use Rattle.block.specs.Kinds.{kindNumber, listLength, ownAgrees}
 use Rattle.block.specs.Calls.{toldFits, fileAnswer, readAnswer, wordsRead, writeAnswer, fileWritten}
 use Rattle.block.proofs.Calls.{told-is, length-low, length-high, file-kept, file-bytes, read-kept, write-kept}
-use Rattle.payload.proofs.Files.{read-write, write-read, file-change-seen}
+use Rattle.seals.proofs.Files.{read-write, write-read, file-change-seen}
 
 pub number-fits : (kind : Kind) → kindNumber kind < 4294967296
 unfolding kindNumber

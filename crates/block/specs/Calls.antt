@@ -9,7 +9,7 @@ use Rattle.tables.specs.Answer.{orElse, left, sized}
 use Rattle.faults.specs.Lists.{within}
 use Rattle.block.specs.declared.Kind.{Kind}
 use Rattle.payload.specs.File.{blocksFor, payloadWord, payloadOf, fileOf}
-use Rattle.payload.specs.Reading.{payloadAnswer}
+use Rattle.seals.specs.Reading.{payloadAnswer}
 use Rattle.block.specs.Kinds.{kindNumber, listLength, ownAgrees}
 
 -- whether N and K as told are good

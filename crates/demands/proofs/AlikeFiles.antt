@@ -17,8 +17,8 @@ use Rattle.lists.specs.Words.{planLength}
 use Rattle.convert.specs.Convert.{checkAnswer, converted}
 use Rattle.payload.specs.Word.{Words}
 use Rattle.payload.specs.File.{blocksFor, payloadWord, payloadOf, fileOf}
-use Rattle.payload.specs.Reading.{payloadAnswer}
-use Rattle.payload.proofs.Files.{read-write}
+use Rattle.seals.specs.Reading.{payloadAnswer}
+use Rattle.seals.proofs.Files.{read-write}
 use Rattle.block.specs.declared.Kind.{Kind}
 use Rattle.block.specs.declared.Kind.the-variants.{Plan}
 use Rattle.block.specs.Kinds.{Told, kindNumber, listLength, ownAgrees, later, fileKind}

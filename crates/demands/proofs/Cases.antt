@@ -10,7 +10,7 @@ use Rattle.road.specs.Run.{supply, junction, inflow, next, cost}
 use Rattle.settings.specs.Rate.{fullFlows, gives, rateFor}
 use Rattle.settings.specs.Setting.{heldLimit, settingFor}
 use Rattle.settings.proofs.Cases.{cases as node-cases}
-use Rattle.payload.proofs.Cases.{cases as file-cases}
+use Rattle.seals.proofs.Cases.{cases as file-cases}
 use Rattle.lists.specs.Words.{linksOf, byKind, nodeAt, stepsOf, roadOf, planOf, planWord, planWords, traceOf, exitSaid, recordWidth}
 use Rattle.faults.specs.Lists.{linkFault, rampFault, startFault, demandFault}
 use Rattle.lengths.specs.Lengths.{corridorSized, demandsSized, recordSized, sizes}

@@ -26,7 +26,7 @@ use Rattle.simulate.specs.Simulate.{simulateSizes, simulateAnswer, simulated}
 use Rattle.convert.specs.Convert.{recordAnswer, checkAnswer, convertAnswer, normalRefusal, normalAnswer}
 use Rattle.search.specs.Search.{placeAnswer}
 use Rattle.payload.specs.File.{blocksFor}
-use Rattle.payload.proofs.Bounds.{Bounded}
+use Rattle.seals.proofs.Bounds.{Bounded}
 use Rattle.block.specs.declared.Kind.{Kind}
 use Rattle.block.specs.declared.Kind.the-variants.{Corridor, Demands, Record}
 use Rattle.block.specs.Kinds.{listLength, fileKind}

@@ -1,5 +1,3 @@
-// Words, a payload's words in their place, what refuses a file, and sealing.
+// Words, and a payload's words in their place.
 pub mod place;
-pub mod reading;
-pub mod sealing;
 pub mod words;

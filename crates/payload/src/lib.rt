@@ -1,2 +1,2 @@
-// A payload of any words and any length as a file of blocks: read, refused by 14 to 18, put and sealed where it stands.
+// A payload of any words and any length in a file of blocks: its words, read and put where they stand.
 pub mod inner;

@@ -22,7 +22,7 @@ use Rattle.faults.proofs.Tests.{within-holds}
 use Rattle.convert.proofs.Facts.{judged-iff}
 use Rattle.payload.specs.Word.{wordAt}
 use Rattle.payload.specs.File.{blocksFor, wordIn, payloadWord}
-use Rattle.payload.specs.Reading.{tested}
+use Rattle.seals.specs.Reading.{tested}
 use Rattle.block.specs.declared.Kind.{Kind}
 use Rattle.block.specs.declared.Kind.the-variants.{Corridor, CorridorDrop, Demands, DemandsDownstream, Record, RecordExits, Plan}
 use Rattle.block.specs.Kinds.{Told, kindNumber, listLength, later, kindWord, fileKind}

@@ -10,7 +10,7 @@ use Rattle.tables.specs.Answer.{orElse, sized}
 use Rattle.lists.specs.Words.{traceLength}
 use Rattle.faults.specs.Lists.{within}
 use Rattle.payload.specs.File.{blocksFor, payloadWord}
-use Rattle.payload.specs.Reading.{tested}
+use Rattle.seals.specs.Reading.{tested}
 use Rattle.block.specs.declared.Kind.{Kind}
 use Rattle.block.specs.Kinds.{listLength}
 use Rattle.file_rows.specs.Words.{fileWidth}

@@ -8,7 +8,7 @@ use Rattle.tables.specs.declared.Answer.{Answer}
 use Rattle.tables.specs.Answer.{orElse, sized}
 use Rattle.faults.specs.Lists.{within}
 use Rattle.payload.specs.File.{blocksFor, wordIn}
-use Rattle.payload.specs.Reading.{tested}
+use Rattle.seals.specs.Reading.{tested}
 use Rattle.block.specs.declared.Kind.{Kind}
 use Rattle.block.specs.declared.Kind.the-variants.{Demands, Record}
 use Rattle.block.specs.Kinds.{listLength, fileKind}

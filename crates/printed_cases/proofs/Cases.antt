@@ -19,7 +19,7 @@ use Rattle.convert.specs.Convert.{settingAt, checkAnswer}
 use Rattle.payload.specs.Word.{wordAt}
 use Rattle.payload.specs.Block.{checkWord, bodyWord, blockWord}
 use Rattle.payload.specs.File.{fileOf, payloadWord}
-use Rattle.payload.specs.Reading.{lengthAnswer, blockAnswer, paddingAnswer, payloadAnswer}
+use Rattle.seals.specs.Reading.{lengthAnswer, blockAnswer, paddingAnswer, payloadAnswer}
 use Rattle.block.specs.Kinds.{kindNumber, listLength, ownAgrees, later, kindWord, fileKind}
 use Rattle.block.specs.Calls.{fileAnswer}
 use Rattle.files.specs.Files.{filesAnswer, readThenCheck}

@@ -10,8 +10,8 @@ ghost use Rattle.block.specs.Calls.{toldFits, fileAnswer, readAnswer, wo
 use crate::Kind;
 use crate::inner::kinds;
 use payload::inner::place;
-use payload::inner::reading;
-use payload::inner::sealing;
+use seals::inner::reading;
+use seals::inner::sealing;
 use tables::Answer;
 use tables::is_refused;
 use tables::sized;

@@ -15,7 +15,7 @@ use block::Kind;
 use block::inner::calls;
 use block::inner::kinds;
 use payload::inner::place;
-use payload::inner::reading;
+use seals::inner::reading;
 use tables::Answer;
 use tables::is_refused;
 

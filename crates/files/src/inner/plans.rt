@@ -12,7 +12,7 @@ ghost use Rattle.file_rows.specs.Rows.{Holds};
 ghost use Rattle.files.specs.Fits.{FilesFit, Accepts, FilesKept, planRowIn};
 use lists::inner::rows;
 use payload::inner::place;
-use payload::inner::sealing;
+use seals::inner::sealing;
 
 // The settings of step k, put into the plan file.
 fn put_step(

@@ -12,8 +12,8 @@ use block::Kind;
 use block::inner::calls;
 use block::inner::kinds;
 use files::inner::answers;
-use payload::inner::reading;
 use payload::inner::words;
+use seals::inner::reading;
 use tables::Answer;
 use tables::refusal;
 

@@ -1,0 +1,3 @@
+// What refuses a file, and sealing.
+pub mod reading;
+pub mod sealing;

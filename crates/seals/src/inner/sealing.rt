@@ -1,0 +1,47 @@
+// Sealing: the payload's words stand in the file, and each block gets its kind, its number, its padding and its check word.
+ghost use mathlib.Core.Path.{_≡_};
+ghost use Prim.Native.Nat.{_*_, _≤_};
+ghost use lib.ListN.{length};
+ghost use Rattle.payload.specs.Block.{blockOf};
+ghost use Rattle.payload.specs.File.{blocksFor, Cleared, keptWord, payloadOf, fileOf};
+use crate::inner::reading;
+use payload::inner::words;
+
+// The padding: zeros from payload word `left` of a block on.
+fn clear(block: &mut [u8], left: usize)
+    requires { ⌜ length (now block) ≡ 512 ⌝ }
+    ensures { λ _. ⌜ Cleared (now (block .entry)) left (now (block .exit)) ⌝ }
+{
+    let mut i = left;
+    while i < 125 {
+        words::put_word(block, 2 + i, 0);
+        i += 1;
+    }
+}
+
+// One block, whose first `left` payload words stand.
+fn seal_block(kind: u32, number: u32, left: usize, block: &mut [u8])
+    requires { ⌜ length (now block) ≡ 512 ⌝ }
+    ensures { λ _. ⌜ now (block .exit) ≡ blockOf kind number (keptWord (now (block .entry)) left) ⌝ }
+{
+    words::put_word(block, 0, kind);
+    words::put_word(block, 1, number);
+    clear(block, left);
+    let check = reading::check_word(block, 0);
+    words::put_word(block, 127, check);
+}
+
+// The file of the m payload words that stand.
+pub fn seal(kind: u32, m: usize, file: &mut [u8])
+    requires { ⌜ (length (now file) ≡ blocksFor m * 512) × (m ≤ 4294967295) ⌝ }
+    ensures { λ _. ⌜ now (file .exit) ≡ fileOf kind (payloadOf m (now (file .entry))) ⌝ }
+{
+    let blocks = reading::blocks_for(m);
+    let mut t: usize = 0;
+    while t < blocks {
+        let at = t * 512;
+        let end = at + 512;
+        seal_block(kind, t as u32, m - t * 125, &mut file[at..end]);
+        t += 1;
+    }
+}
