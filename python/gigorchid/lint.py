@@ -43,8 +43,8 @@ class Arrived(NamedTuple):
     """What a column of arrivals gives over all steps, in vehicles: as it was given, and in words."""
 
     column: str
-    given: Fraction
-    words: Fraction
+    vehicles_given: Fraction
+    vehicles_rounded: Fraction
 
 
 def _joined(given: Iterable[tuple[Cell, str, int, Fraction]]) -> list[Rounded]:

@@ -83,20 +83,29 @@ def of_file(refusal: Refusal, file: str, place: str, content: bytes, links: int,
     """A refusal of a reader of block files."""
     block = f"block {refusal.row}, bytes {refusal.row * BLOCK_BYTES:,} to {(refusal.row + 1) * BLOCK_BYTES - 1:,},"
     kinds = str(file_kind(place, content)) if refusal.row else " or ".join(map(str, KINDS[place]))
-    first, found = (int.from_bytes(content[at : at + 4], "little") for at in (0, refusal.row * BLOCK_BYTES))
+    found = _first_word(content[refusal.row * BLOCK_BYTES :])
+    most = f"a file has 1 to {MOST_LINKS} links and 1 to {MOST_STEPS:,} steps, and its own"
     sentences = {
-        1: f"{links:,} links and {steps:,} steps: a file has 1 to {MOST_LINKS} links and 1 to {MOST_STEPS:,} steps, and its own",
+        1: f"{links:,} links and {steps:,} steps: {most}",
+        14: _wrong_length(place, content, links, steps),
         15: f"{block} has a wrong check word: it was changed after it was written",
         16: f"{block} is of kind {found:,}: expected {kinds}, {_ARTICLES[place]}",
         17: f"{block} has the number of another block",
         18: f"{block} has words after the end of the list that are not zero",
     }
-    if refusal.number == 14:
-        wanted = file_bytes(list_words(place, file_kind(place, content), links, steps))
-        sentences[
-            14
-        ] = f"{len(content):,} bytes: {_ARTICLES[place]} of {links} links and {steps:,} steps: expected {wanted:,}"
     return Told(refusal, sentences[refusal.number], [Cell(file)])
+
+
+def _first_word(content: bytes) -> int:
+    return int.from_bytes(content[:4], "little")
+
+
+def _wrong_length(place: str, content: bytes, links: int, steps: int) -> str:
+    """14: how many bytes there are and should be, and whether the file begins as one of another list."""
+    wanted = file_bytes(list_words(place, file_kind(place, content), links, steps)) or 0
+    other = next((name for name, kinds in KINDS.items() if _first_word(content) in kinds and name != place), None)
+    begins = f"; it begins as a file of {_ARTICLES[other]} does" if other else ""
+    return f"{len(content):,} bytes: expected {wanted:,}, of {_ARTICLES[place]} of {links} links and {steps:,} steps{begins}"
 
 
 # ---- words in people's units ----

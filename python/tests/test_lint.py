@@ -142,7 +142,7 @@ def test_figures_are_shown_with_word_and_rounding() -> None:
 def test_arrivals_are_shown_as_given_and_in_units() -> None:
     with folder_of(without(VALLEY, "downstream.csv")) as folder:
         shown = lint.arrived(Project.load(folder))
-    assert [(each.column, each.given, each.words) for each in shown] == [
+    assert [tuple(each) for each in shown] == [
         ("10_vph", Fraction(30 * 3600 + 30 * 4050, 3600), Fraction("63.75")),
         ("20_vph", Fraction(30 * 540 + 30 * 720, 3600), Fraction("10.5")),
     ]

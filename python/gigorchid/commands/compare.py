@@ -177,43 +177,52 @@ def _first_data(found: Comparison, first: First | None, names: tuple[str, ...]) 
 
 
 def _data(found: Comparison, first: str, second: str) -> dict[str, object]:
-    clock, nodes = found.a.project.clock, found.a.project.corridor.nodes
+    sides = {"a": found.a, "b": found.b}
     data: dict[str, object] = {
         "a": first,
         "b": second,
         "verdict": found.verdict,
         "by": found.by,
         "reasons": found.reasons,
-        "valid": {"a": found.a.refusal is None, "b": found.b.refusal is None},
-        "refusals": {
-            name: each.refusal.as_json() if each.refusal else None for name, each in (("a", found.a), ("b", found.b))
-        },
+        "valid": {name: each.refusal is None for name, each in sides.items()},
+        "refusals": {name: each.refusal.as_json() if each.refusal else None for name, each in sides.items()},
+        "warnings": {name: each.plan.outside() for name, each in sides.items()},
     }
     if found.verdict == NOT_COMPARABLE:
-        data["only_in_a"] = [nodes[place].identifier for place in found.only_in_a]
-        data["only_in_b"] = [found.b.project.corridor.nodes[place].identifier for place in found.only_in_b]
-        data["shared"] = [
-            {
-                "id": each.identifier,
-                "corridor": each.columns,
-                "first_difference": {name: None if at is None else clock.at(at) for name, at in each.firsts.items()},
-            }
-            for each in found.shared
-        ]
-        return data
-    data["first_in_normal_forms"] = _first_data(found, found.first_setting, ("rate_units", "limit_units"))
-    data["first_in_records"] = _first_data(found, found.first_word, COLUMNS)
-    data["only_written_differently"] = [
-        {
-            "id": nodes[run.node].identifier,
-            "from": clock.at(run.start),
-            "until": clock.at(run.end),
-            "a": run.a,
-            "b": run.b,
-        }
-        for run in found.only_written
-    ]
-    data["not_proved"] = {"places_different": found.places_different} | {
-        f"vehicle_hours_{name}": travel(each.record).hours for name, each in (("a", found.a), ("b", found.b))
+        return data | _data_by_identifier(found)
+    hours = {f"vehicle_hours_{name}": travel(each.record).hours for name, each in sides.items()}
+    return data | {
+        "first_in_normal_forms": _first_data(found, found.first_setting, ("rate_units", "limit_units")),
+        "first_in_records": _first_data(found, found.first_word, COLUMNS),
+        "only_written_differently": [_written_data(found, run) for run in found.only_written],
+        "not_proved": {"places_different": found.places_different} | hours,
     }
-    return data
+
+
+def _written_data(found: Comparison, run: Written) -> dict[str, object]:
+    clock, node = found.a.project.clock, found.a.project.corridor.nodes[run.node]
+    both = {
+        name: {"rate_units": words[RATE], "limit_units": words[LIMIT]} for name, words in (("a", run.a), ("b", run.b))
+    }
+    return {"id": node.identifier, "from": clock.at(run.start), "until": clock.at(run.end), **both}
+
+
+def _data_by_identifier(found: Comparison) -> dict[str, object]:
+    clock = found.a.project.clock
+
+    def identifiers(each: Side, places: list[int]) -> list[int]:
+        return [each.project.corridor.nodes[place].identifier for place in places]
+
+    shared = [
+        {
+            "id": each.identifier,
+            "corridor": each.columns,
+            "first_difference": {name: None if at is None else clock.at(at) for name, at in each.firsts.items()},
+        }
+        for each in found.shared
+    ]
+    return {
+        "only_in_a": identifiers(found.a, found.only_in_a),
+        "only_in_b": identifiers(found.b, found.only_in_b),
+        "shared": shared,
+    }

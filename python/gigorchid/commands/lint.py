@@ -5,6 +5,8 @@ from __future__ import annotations
 from collections.abc import Iterable
 from fractions import Fraction
 
+from rich.table import Table
+
 from .. import lint
 from ..plans import Plan
 from ..project import Project
@@ -95,6 +97,11 @@ def _kinds(road: Project) -> str:
     return f"{drops}; {beyond if road.demands.kind == 5 else free}; one unit of flow is {unit} veh/h"
 
 
+def _arrivals(arrivals: list[lint.Arrived]) -> Table:
+    rows = [[each.column, decimal(each.vehicles_given, 3), decimal(each.vehicles_rounded, 3)] for each in arrivals]
+    return table(["arrivals", "given, veh", "after rounding, veh"], rows)
+
+
 def _figure_data(figures: Iterable[lint.Rounded]) -> list[dict[str, object]]:
     return [
         {
@@ -128,15 +135,13 @@ def command(project: str) -> Outcome:
     figures = lint.corridor_figures(road) + lint.split_figures(road)
     figures += [each for plan in plans for each in lint.plan_figures(plan)]
     arrivals = lint.arrived(road)
+    span = f"{road.clock.at(0)} to {road.clock.at(road.steps)}"
     lines: list[Shown] = [
-        f"{road.title}: {road.links} links, {road.steps:,} steps of {float(road.clock.step):g} s, {road.clock.at(0)} to {road.clock.at(road.steps)}",
+        f"{road.title}: {road.links} links, {road.steps:,} steps of {float(road.clock.step):g} s, {span}",
         _kinds(road),
         *_figures(figures),
         "",
-        table(
-            ["arrivals", "given, veh", "after rounding, veh"],
-            [[each.column, decimal(each.given, 3), decimal(each.words, 3)] for each in arrivals],
-        ),
+        _arrivals(arrivals),
         "",
         *verdicts,
         *[f"warning: {each}" for each in warned],
@@ -148,9 +153,7 @@ def command(project: str) -> Outcome:
         "corridor_kind": road.corridor.kind,
         "demands_kind": road.demands.kind,
         "figures": _figure_data(figures),
-        "arrivals": [
-            {"column": each.column, "vehicles_given": each.given, "vehicles_in_words": each.words} for each in arrivals
-        ],
+        "arrivals": [each._asdict() for each in arrivals],
         "plans": told_plans,
         "warnings": warned,
     }

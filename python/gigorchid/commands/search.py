@@ -4,6 +4,7 @@ from __future__ import annotations
 
 import click
 
+from ..calls import Search
 from ..layout import FLOW, RAMP_CAPACITY, RAMP_FLOW
 from ..project import Project
 from ..times import EXPECTED_TIME, parse_time
@@ -49,30 +50,14 @@ def command(project: str, record: str, time: str, identifier: int) -> Outcome:
     proposed = load_record(road, record)
     step, node = step_at(road, time), node_of(road, identifier)
     found = road.search(proposed, step, node)
-    label, when = road.corridor.nodes[node].label, road.clock.at(step)
     flow, ramp = (int(proposed.states[step, node, place]) for place in (FLOW, RAMP_FLOW))
-
-    def shown(word: int) -> str:
-        return f"{word:,} units ({tidy(decimal(word / factor('vph', road.clock.step), 1))} veh/h)"
-
-    capacity = road.corridor.word(node, RAMP_CAPACITY)
     limit = int(road.convert(proposed).limits[step, node])
-    posted = road.corridor.speed_text(limit, node, road.clock.step)
-    if found.found:
-        outcome = f"found: {shown(found.rate)}, the smallest that gives these flows at full speed"
-    else:
-        outcome = f"none: no rate gives these flows at full speed, so the converter posts a limit of {posted}"
-    lines = [
-        f"{label} at {when}: {shown(flow)} leave the link, {shown(ramp)} the ramp",
-        f"rates tried: {found.tries}, of 0 to {shown(capacity)}" if capacity else "no on-ramp: the only rate is 0",
-        outcome,
-    ]
     data = {
         "record": record,
         "id": identifier,
         "name": road.corridor.nodes[node].name,
         "step": step,
-        "time": when,
+        "time": road.clock.at(step),
         "flow_units": flow,
         "ramp_flow_units": ramp,
         "tries": found.tries,
@@ -80,4 +65,24 @@ def command(project: str, record: str, time: str, identifier: int) -> Outcome:
         "rate_units": found.rate if found.found else None,
         "limit_units": limit,
     }
-    return Outcome(data, lines)
+    place = f"{road.corridor.nodes[node].label} at {road.clock.at(step)}"
+    flows = f"{place}: {_shown(flow, road)} leave the link, {_shown(ramp, road)} the ramp"
+    return Outcome(data, [flows, _tried(found, road, node), _came_to(found, road, node, limit)])
+
+
+def _shown(word: int, project: Project) -> str:
+    return f"{word:,} units ({tidy(decimal(word / factor('vph', project.clock.step), 1))} veh/h)"
+
+
+def _tried(found: Search, project: Project, node: int) -> str:
+    capacity = project.corridor.word(node, RAMP_CAPACITY)
+    if not capacity:
+        return "no on-ramp: the only rate is 0"
+    return f"rates tried: {found.tries}, of 0 to {_shown(capacity, project)}"
+
+
+def _came_to(found: Search, project: Project, node: int, limit: int) -> str:
+    if found.found:
+        return f"found: {_shown(found.rate, project)}, the smallest that gives these flows at full speed"
+    posted = project.corridor.speed_text(limit, node, project.clock.step)
+    return f"none: no rate gives these flows at full speed, so the converter posts a limit of {posted}"
