@@ -37,7 +37,7 @@ COMMANDS: dict[str, tuple[str, int]] = {
     "search": ("search demo demo/record.csv --at 07:20 --ramp 1380", 0),
     "search_held": ("search demo demo/record.csv --at 07:20 --ramp 1350", 0),
     "explain": ("explain 12", 0),
-    "explain_answer": ("explain 46664972 --project demo", 0),
+    "explain_answer": ("explain 44370188 --project demo", 0),
     "pack": ("pack demo --into packed --record demo/record.csv", 0),
     "unpack": (
         "unpack packed/corridor.blocks packed/demands.blocks packed/plan-peak.blocks --into again --like demo",

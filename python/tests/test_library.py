@@ -220,3 +220,14 @@ def test_a_header_with_a_function_more_builds_no_library(tmp_path: Path) -> None
     assert ran.returncode == 1
     assert "< gigorchid_weave_words" in ran.stdout
     assert not (tmp_path / "target/lib/libgigorchid.so").exists()
+
+
+@pytest.mark.parametrize("module", ["gigorchid.calls", "gigorchid", "gigorchid.project"])
+def test_the_bindings_need_numpy_alone(module: str) -> None:
+    """And a project is read without what only the command and the frames use."""
+    script = (
+        f"import sys; sys.modules.update(dict.fromkeys(['click', 'rich', 'pandas'])); import {module}; print('done')"
+    )
+    environment = os.environ | {"PYTHONPATH": str(ROOT / "python")}
+    told = subprocess.run([sys.executable, "-c", script], env=environment, capture_output=True, text=True)
+    assert (told.stdout, told.stderr) == ("done\n", "")
