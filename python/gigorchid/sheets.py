@@ -55,6 +55,10 @@ class Fault(Exception):
     def __str__(self) -> str:
         return f"{self.cell}: {self.wrong}"
 
+    def as_json(self) -> dict[str, object]:
+        """The fault as commands print it with --json."""
+        return self.cell.as_json() | {"wrong": self.wrong}
+
 
 def expected(cell: Cell, what: str) -> Fault:
     """The fault of a cell that holds something else than was expected."""

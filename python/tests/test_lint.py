@@ -3,7 +3,7 @@
 from fractions import Fraction
 
 import pytest
-from projects import VALLEY, changed, folder_of, without
+from projects import VALLEY, changed, folder_of, run, without
 
 from gigorchid import Project
 from gigorchid import lint
@@ -146,3 +146,16 @@ def test_arrivals_are_shown_as_given_and_in_units() -> None:
         ("10_vph", Fraction(30 * 3600 + 30 * 4050, 3600), Fraction("63.75")),
         ("20_vph", Fraction(30 * 540 + 30 * 720, 3600), Fraction("10.5")),
     ]
+
+
+def test_the_faults_of_all_plans_are_told() -> None:
+    files = changed(
+        VALLEY,
+        ("plan-open.csv", "id,from,until,rate_vph,limit_kmh\n", "id,from,until,rate_vph,limit_kmh\n25,,,1,\n"),
+        ("plan-metered.csv", "20,07:00:20,07:01,360,", "20,07:00:25,07:01,360,"),
+    )
+    with folder_of(files) as folder:
+        status, printed = run(folder, "lint", ".")
+    assert status == 3
+    assert "plan-open.csv:2: id: '25': expected an identifier of the corridor" in printed
+    assert "plan-metered.csv:3: from: '07:00:25': expected the start of a step" in printed

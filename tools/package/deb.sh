@@ -5,8 +5,11 @@ set -euo pipefail
 out=$(realpath --canonicalize-missing "${1:-$(dirname "$0")/../../target/package}")
 cd "$(dirname "$0")/../.."
 umask 022
-export SOURCE_DATE_EPOCH=${SOURCE_DATE_EPOCH:-$(git log -1 --format=%ct)} PYTHONDONTWRITEBYTECODE=1
 sources=tools/package
+# The time of every file is that of the changelog's newest entry, as Debian has it.
+released=$(sed -n 's/^ -- .*>  //p' $sources/debian/changelog | head -n 1)
+SOURCE_DATE_EPOCH=$(date --date="$released" +%s)
+export SOURCE_DATE_EPOCH PYTHONDONTWRITEBYTECODE=1
 work=$(mktemp -d)
 trap 'rm -rf "$work"' EXIT
 stage=$work/stage

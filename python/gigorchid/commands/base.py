@@ -129,7 +129,7 @@ def _outcome(work: Callable[[], Outcome]) -> Outcome:
     except Refusal as refusal:
         return refused(refusal)
     except Fault as fault:
-        data = {"verdict": "FAULTY", "fault": fault.cell.as_json() | {"wrong": fault.wrong}}
+        data = {"verdict": "FAULTY", "fault": fault.as_json()}
         return Outcome(data, [str(fault)], FAULTY, aside=True)
 
 

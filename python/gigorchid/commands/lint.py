@@ -10,10 +10,12 @@ from rich.table import Table
 from .. import lint
 from ..plans import Plan
 from ..project import Project
+from ..sheets import Fault
 from ..tell import Told
 from ..units import SYMBOLS, decimal, factor, tidy
 from .base import (
     ACCEPTED,
+    FAULTY,
     REFUSED,
     Outcome,
     Shown,
@@ -64,6 +66,17 @@ def _figures(figures: list[lint.Rounded]) -> list[Shown]:
         ]
         shown += ["", table([file, "lines", "given", "units", "which is", "rounding"], rows, words=2)]
     return shown or ["", "every figure is given in exact units"]
+
+
+def _plans(project: Project) -> tuple[list[Plan], list[Fault]]:
+    """The plans that can be read, and the faults of the others."""
+    plans, faults = [], []
+    for name in project.plans:
+        try:
+            plans.append(project.plan(name))
+        except Fault as fault:
+            faults.append(fault)
+    return plans, faults
 
 
 def _verdicts(project: Project, plans: list[Plan]) -> tuple[list[str], dict[str, object], bool]:
@@ -122,14 +135,15 @@ def _figure_data(figures: Iterable[lint.Rounded]) -> list[dict[str, object]]:
 def command(project: str) -> Outcome:
     """Show every figure of PROJECT with the word that it becomes and what that word is in the figure's unit; then warnings.
 
-    The library is asked about corridor and demands, and about each plan. Warnings do not change the exit status; a refusal by 1 to 6 does.
+    The library is asked about corridor and demands, and about each plan. Every plan is read, also where one is faulty. Warnings do not
+    change the exit status; a fault and a refusal by 1 to 6 do.
     """
     road = load_project(project)
     try:
         road.simulate(road.full_plan())
     except Told as told:
         return refused(told)
-    plans = [road.plan(name) for name in road.plans]
+    plans, faults = _plans(road)
     verdicts, told_plans, bad = _verdicts(road, plans)
     warned = lint.warnings(road, plans)
     figures = lint.corridor_figures(road) + lint.split_figures(road)
@@ -144,6 +158,7 @@ def command(project: str) -> Outcome:
         _arrivals(arrivals),
         "",
         *verdicts,
+        *[str(fault) for fault in faults],
         *[f"warning: {each}" for each in warned],
         f"{len(warned)} warning" + ("" if len(warned) == 1 else "s"),
     ]
@@ -157,4 +172,7 @@ def command(project: str) -> Outcome:
         "plans": told_plans,
         "warnings": warned,
     }
-    return Outcome(data, lines, REFUSED if bad else ACCEPTED)
+    if faults:
+        told = [fault.as_json() for fault in faults]
+        data |= {"verdict": "FAULTY", "fault": told[0], "faults": told}
+    return Outcome(data, lines, FAULTY if faults else REFUSED if bad else ACCEPTED)
