@@ -173,6 +173,5 @@ def command(project: str) -> Outcome:
         "warnings": warned,
     }
     if faults:
-        told = [fault.as_json() for fault in faults]
-        data |= {"verdict": "FAULTY", "fault": told[0], "faults": told}
+        data |= {"verdict": "FAULTY", "fault": faults[0].as_json(), "faults": [fault.as_json() for fault in faults]}
     return Outcome(data, lines, FAULTY if faults else REFUSED if bad else ACCEPTED)
