@@ -130,6 +130,23 @@ def _figure_data(figures: Iterable[lint.Rounded]) -> list[dict[str, object]]:
     ]
 
 
+def _data(road: Project, figures: list[lint.Rounded], arrivals: list[lint.Arrived]) -> dict[str, object]:
+    return {
+        "links": road.links,
+        "steps": road.steps,
+        "corridor_kind": road.corridor.kind,
+        "demands_kind": road.demands.kind,
+        "figures": _figure_data(figures),
+        "arrivals": [each._asdict() for each in arrivals],
+    }
+
+
+def _faults_data(faults: list[Fault]) -> dict[str, object]:
+    if not faults:
+        return {}
+    return {"verdict": "FAULTY", "fault": faults[0].as_json(), "faults": [fault.as_json() for fault in faults]}
+
+
 @make_command("lint", short_help="What a project gave, in units and back, with warnings.")
 @project_argument
 def command(project: str) -> Outcome:
@@ -162,16 +179,5 @@ def command(project: str) -> Outcome:
         *[f"warning: {each}" for each in warned],
         f"{len(warned)} warning" + ("" if len(warned) == 1 else "s"),
     ]
-    data = {
-        "links": road.links,
-        "steps": road.steps,
-        "corridor_kind": road.corridor.kind,
-        "demands_kind": road.demands.kind,
-        "figures": _figure_data(figures),
-        "arrivals": [each._asdict() for each in arrivals],
-        "plans": told_plans,
-        "warnings": warned,
-    }
-    if faults:
-        data |= {"verdict": "FAULTY", "fault": faults[0].as_json(), "faults": [fault.as_json() for fault in faults]}
+    data = _data(road, figures, arrivals) | {"plans": told_plans, "warnings": warned} | _faults_data(faults)
     return Outcome(data, lines, FAULTY if faults else REFUSED if bad else ACCEPTED)
