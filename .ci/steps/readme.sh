@@ -19,12 +19,12 @@ for line in 'PLAN 1 3 370' '0 20 50 32768 F' 'PLAN 1 3 400' 'PLAN 1 3 390' 'PLAN
 done
 
 bash tools/package/deb.sh "$work/package"
-dpkg-deb -x "$work"/package/gigorchid_*_amd64.deb "$work/root"
+dpkg-deb -x "$work"/package/gigorchid_*_amd64.deb "$work/unpacked"
 mkdir "$work/empty"
 passages shell > "$work/tool"
-(cd "$work/empty" && PATH="$work/root/usr/bin:$PATH" bash -euo pipefail "$work/tool") > "$work/out"
+(cd "$work/empty" && PATH="$work/unpacked/usr/bin:$PATH" bash -euo pipefail "$work/tool") > "$work/out"
 passages python > "$work/program"
-(cd "$work/empty" && PYTHONPATH="$work/root/usr/lib/python3/dist-packages" /usr/bin/python3 "$work/program") >> "$work/out"
+(cd "$work/empty" && PYTHONPATH="$work/unpacked/usr/lib/python3/dist-packages" /usr/bin/python3 "$work/program") >> "$work/out"
 quoted=$(grep '^    NOT VALID: ' README.md)
 for line in "${quoted#    }" 'status 1' 'status 2' 'VALID: within bounds, and every queue within its limit' 'Barrett          85.531250'; do
     grep -qxF "$line" "$work/out" || { echo "the tool's commands of README.md do not print: $line"; cat "$work/out"; exit 1; }

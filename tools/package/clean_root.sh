@@ -84,10 +84,10 @@ mount -t proc proc "$root/proc"
 [ -z "$(installed)" ] || fail "the new root has the package already"
 
 echo "== apt-get install ./$(basename "$deb")"
-cp "$deb" "$root/root/"
+cp "$deb" "$root/tmp/"
 inside apt-get update --quiet=2
-packages install "/root/$(basename "$deb")"
-rm "$root/root/$(basename "$deb")"
+packages install "/tmp/$(basename "$deb")"
+rm "$root/tmp/$(basename "$deb")"
 packages install gcc libc6-dev pkg-config
 in_cache || fail "the loader's cache has no libgigorchid.so.0"
 [ -d "$root/usr/lib/python3/dist-packages/gigorchid/__pycache__" ] || fail "the Python modules were not compiled"
