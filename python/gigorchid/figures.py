@@ -1,4 +1,4 @@
-"""Figures that this package sums up itself from the words of a record. The record is proved; none of these is."""
+"""Figures that this package works out itself from the words of a record. The record is proved; none of these is."""
 
 from __future__ import annotations
 
@@ -12,7 +12,7 @@ from .records import Record
 from .units import ONE, UNITS_PER_VEHICLE
 
 MARK = "*"
-NOT_PROVED = f"{MARK} computed by this tool from the record's words, not proved"
+NOT_PROVED = f"{MARK} computed by this tool, not proved"
 
 
 class Travel(NamedTuple):

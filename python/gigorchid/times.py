@@ -47,11 +47,6 @@ class Clock:
     step: Fraction
     steps: int
 
-    @property
-    def end(self) -> Fraction:
-        """When state K is."""
-        return self.start + self.steps * self.step
-
     @lru_cache(maxsize=4096)
     def at(self, state: int) -> str:
         """The time of day of a state, which is also that at which the step of this number starts."""

@@ -157,3 +157,19 @@ def test_unpack_takes_names_only_from_a_project_that_knows_the_nodes(prepared: P
     files = [str(golden.ROOT / "examples" / "b" / name) for name in ("corridor.blocks", "demands.blocks")]
     done = golden.run(prepared, ["unpack", *files, "--into", "b", "--like", "demo"])
     assert done.returncode == 64 and "none of these identifiers" in done.stderr
+
+
+@pytest.mark.parametrize(("options", "start"), [("", "06:00:00"), ("--start 22:30", "22:30:00")])
+def test_unpack_takes_the_start_that_is_told(prepared: Path, options: str, start: str) -> None:
+    """It stands in no block file, and is that of the project it is like where nothing else is told."""
+    folder = f"from{start[:2]}"
+    assert golden.run(prepared, f"pack demo --into {folder}-blocks".split()).returncode == 0
+    files = f"{folder}-blocks/corridor.blocks {folder}-blocks/demands.blocks"
+    assert golden.run(prepared, f"unpack {files} --into {folder} --like demo {options}".split()).returncode == 0
+    assert f'start = "{start}"\n' in (prepared / folder / "project.toml").read_text()
+
+
+@pytest.mark.parametrize("time", ["07:20:05", "05:59:50", "09:00", "7.20"])
+def test_a_search_is_for_a_time_at_which_a_step_starts(prepared: Path, time: str) -> None:
+    done = golden.run(prepared, f"search demo demo/record.csv --at {time} --ramp 1380".split())
+    assert done.returncode == 64 and f"--at {time}: " in done.stderr

@@ -104,6 +104,12 @@ def test_a_warning_for_each_cause(file: str, old: str, new: str, warning: str) -
     assert any(each.startswith(warning) for each in found), found
 
 
+def test_a_short_surge_of_arrivals_is_no_warning() -> None:
+    """1,000 vehicles an hour for ten seconds, at a ramp that passes 900."""
+    surge = ("arrivals.csv", "07:00,3600,540\n", "07:00,3600,540\n07:00:10,3600,1000\n07:00:20,3600,540\n")
+    assert warnings_of(changed(VALLEY, surge)) == []
+
+
 def test_a_link_without_a_length_is_told() -> None:
     units = changed(
         VALLEY,

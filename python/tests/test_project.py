@@ -8,7 +8,7 @@ from projects import VALLEY, changed, folder_of, loaded
 
 import gigorchid
 from gigorchid import Fault, Project, Refusal
-from gigorchid.tell import Told
+from gigorchid.tell import Told, overflows
 
 
 def told_of(files: dict[str, str | bytes], plan: str) -> Told:
@@ -64,6 +64,8 @@ def test_what_is_written_is_read_by_pandas_with_and_without_comments() -> None:
     assert (
         plan.columns.tolist() == "id from until rate_units limit_units (name) (rate_vph) (limit_kmh) (setting)".split()
     )
+    held = plan[plan["(setting)"] == "held"]
+    assert set(held.id) == {30} and held["from"].min() == "07:00:30" and held["(limit_kmh)"].max() < 90
 
 
 def test_faults_and_refusals_go_from_one_process_to_another() -> None:
@@ -84,14 +86,45 @@ def test_a_place_out_of_range_is_told_as_such(step: int, node: int) -> None:
             project.search(project.simulate("open"), step, node)
 
 
-def test_a_queue_that_metering_made_is_told_at_the_last_row_that_metered() -> None:
-    edits = ("corridor.csv", "900,25,20,2,,", "900,4,20,2,,"), (
-        "plan-metered.csv",
-        "20,07:00:20,07:01,360,",
-        "20,07:00:20,07:00:30,0,",
+METERED_ROWS = "20,07:00,07:00:20,450,\n20,07:00:20,07:01,360,\n30,07:00:30,,,72\n"
+
+
+def told_at_mill_road(plan: str, limit: int) -> Told:
+    """The first overflow of a ramp at which more arrive than it can pass from 07:00:30 on, with this limit in units."""
+    edits = (
+        ("arrivals.csv", "07:00:30,4050,720", "07:00:30,4050,1200"),
+        ("corridor.csv", "queue_limit_veh", "queue_limit_units"),
+        ("corridor.csv", "900,25,20,2,,", f"900,{limit},20,2,,"),
+        ("plan-metered.csv", METERED_ROWS, plan),
     )
-    told = told_of(changed(VALLEY, *edits), "metered")
-    assert told.cells[0].place == "plan-metered.csv:3" and "unmetered" not in told.sentence
+    return told_of(changed(VALLEY, *edits), "metered")
+
+
+def test_a_queue_that_metering_made_is_told_at_the_last_row_that_metered() -> None:
+    """The row ends at 07:00:30; the queue, 416 units then, and 108 had nobody metered, passes 450 in the next step."""
+    told = told_at_mill_road("20,07:00,07:00:30,0,\n", 450)
+    assert (told.row, told.node, told.cells[0].place) == (3, 1, "plan-metered.csv:2")
+    assert "unmetered" not in told.sentence
+
+
+@pytest.mark.parametrize(("limit", "place"), [(288, "plan-metered.csv:2"), (287, "corridor.csv:3")])
+def test_a_queue_that_reaches_its_limit_unmetered_has_not_passed_it(limit: int, place: str) -> None:
+    """At 07:00:50 there are 295 units, and 288 had nobody metered."""
+    told = told_at_mill_road("20,07:00,,840,\n", limit)
+    assert (told.row, told.cells[0].place) == (4, place)
+
+
+def test_breaks_between_overflows_are_told() -> None:
+    with folder_of(VALLEY) as folder:
+        project = Project.load(folder)
+    queues = np.zeros((7, 4), dtype=np.uint32)
+    queues[[2, 3, 5], 1] = 1601, 1700, 1650
+    once = (
+        "Mill Road (20): above its limit of 25 vehicles from 07:00:20 to 07:00:50, with breaks; most 26.6 at 07:00:30"
+    )
+    assert overflows(queues, project) == [once]
+    queues[4, 1] = 1601
+    assert overflows(queues, project) == [once.replace(", with breaks", "")]
 
 
 def test_a_queue_that_no_rate_would_help_is_told_at_its_limit() -> None:

@@ -158,7 +158,7 @@ def _by_identifier(found: Comparison) -> list[Shown]:
         lines += ["of the nodes in both, by identifier, these differ:", table(["node", "in"], rows, words=2)]
     same = len(found.shared) - len(rows)
     said = "arrivals, split, rate, limit, queue and flows" if in_time else "the corridor"
-    return lines + [f"{same} of {len(found.shared)} nodes in both are the same in {said}"]
+    return lines + [f"{same} of {len(found.shared)} nodes in both are the same in {said} {MARK}", NOT_PROVED]
 
 
 def _first_data(found: Comparison, first: First | None, names: tuple[str, ...]) -> dict[str, object] | None:

@@ -2,6 +2,7 @@
 
 from __future__ import annotations
 
+from ..figures import NOT_PROVED
 from .base import (
     Outcome,
     Shown,
@@ -38,7 +39,8 @@ def command(project: str, record: str, output: str | None) -> Outcome:
         "",
         settings_table(plan),
         "",
+        NOT_PROVED,
         *written,
     ]
-    data = {"record": record, "verdict": "ACCEPTED", "settings": settings_data(plan), "written": output}
-    return Outcome(data, lines[: None if written else -1], aside=output == "-")
+    data = {"record": record, "verdict": "ACCEPTED", "not_proved": {"settings": settings_data(plan)}, "written": output}
+    return Outcome(data, lines, aside=output == "-")

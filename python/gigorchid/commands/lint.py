@@ -8,6 +8,7 @@ from fractions import Fraction
 from rich.table import Table
 
 from .. import lint
+from ..figures import MARK, NOT_PROVED
 from ..plans import Plan
 from ..project import Project
 from ..sheets import Fault
@@ -64,7 +65,10 @@ def _figures(figures: list[lint.Rounded]) -> list[Shown]:
             for each in figures
             if each.file == file
         ]
-        shown += ["", table([file, "lines", "given", "units", "which is", "rounding"], rows, words=2)]
+        shown += [
+            "",
+            table([file, "lines", "given", f"units {MARK}", f"which is {MARK}", f"rounding {MARK}"], rows, words=2),
+        ]
     return shown or ["", "every figure is given in exact units"]
 
 
@@ -112,7 +116,7 @@ def _kinds(road: Project) -> str:
 
 def _arrivals(arrivals: list[lint.Arrived]) -> Table:
     rows = [[each.column, decimal(each.vehicles_given, 3), decimal(each.vehicles_rounded, 3)] for each in arrivals]
-    return table(["arrivals", "given, veh", "after rounding, veh"], rows)
+    return table(["arrivals", f"given, veh {MARK}", f"after rounding, veh {MARK}"], rows)
 
 
 def _figure_data(figures: Iterable[lint.Rounded]) -> list[dict[str, object]]:
@@ -136,8 +140,7 @@ def _data(road: Project, figures: list[lint.Rounded], arrivals: list[lint.Arrive
         "steps": road.steps,
         "corridor_kind": road.corridor.kind,
         "demands_kind": road.demands.kind,
-        "figures": _figure_data(figures),
-        "arrivals": [each._asdict() for each in arrivals],
+        "not_proved": {"figures": _figure_data(figures), "arrivals": [each._asdict() for each in arrivals]},
     }
 
 
@@ -173,6 +176,7 @@ def command(project: str) -> Outcome:
         *_figures(figures),
         "",
         _arrivals(arrivals),
+        NOT_PROVED,
         "",
         *verdicts,
         *[str(fault) for fault in faults],

@@ -2,6 +2,7 @@
 
 from __future__ import annotations
 
+from ..figures import NOT_PROVED
 from .base import (
     Outcome,
     Shown,
@@ -41,14 +42,15 @@ def command(project: str, plan: str, output: str | None) -> Outcome:
         "",
         settings_table(normal),
         "",
+        NOT_PROVED,
         *written,
     ]
     data = {
         "plan": given.name,
         "verdict": "VALID",
         "note": note,
-        "normal_form": settings_data(normal),
+        "not_proved": {"settings": settings_data(normal)},
         "warnings": given.outside(),
         "written": output,
     }
-    return Outcome(data, lines[: None if written else -1], aside=output == "-")
+    return Outcome(data, lines, aside=output == "-")

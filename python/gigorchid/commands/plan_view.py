@@ -5,6 +5,7 @@ from __future__ import annotations
 from rich.table import Table
 
 from ..corridor import Corridor
+from ..figures import MARK
 from ..layout import RAMP_CAPACITY
 from ..plans import Plan
 from ..settings import NodeSettings, by_node
@@ -37,7 +38,7 @@ def settings_table(plan: Plan) -> Table:
         lowest = limit_text(found.least_limit, found.node, plan) if found.held_steps else ""
         label = plan.corridor.nodes[found.node].label
         rows.append([label, _rates(found, plan.corridor, plan), f"{found.changes:,}", held, lowest])
-    return table(["node", "rate, veh/h", "changes", "with a limit", "lowest limit"], rows)
+    return table(["node", f"rate, veh/h {MARK}", f"changes {MARK}", f"limited {MARK}", f"lowest limit {MARK}"], rows)
 
 
 def settings_data(plan: Plan) -> list[dict[str, object]]:
