@@ -21,6 +21,8 @@ COMMANDS = (
     "convert",
     "normal",
     "compare",
+    "plot",
+    "report",
     "search",
     "explain",
     "pack",

@@ -3,7 +3,8 @@
 from __future__ import annotations
 
 from .base import Outcome, Shown, command as make_command, load_project, load_record, project_argument, record_argument
-from .simulate import figures_data, queue_table, travel_lines
+from ..summaries import travel_lines
+from .simulate import figures_data, queue_table
 
 
 @make_command("check", short_help="Check a proposed record.")
@@ -17,7 +18,7 @@ def command(project: str, record: str) -> Outcome:
     lines: list[Shown] = [
         f"ACCEPTED: some valid plan has the record {record}, in every word; `gigorchid convert` gives one",
         "",
-        queue_table(road, proposed),
+        queue_table(proposed),
         "",
         *travel_lines(proposed),
     ]

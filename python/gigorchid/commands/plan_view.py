@@ -9,18 +9,8 @@ from ..figures import MARK
 from ..layout import RAMP_CAPACITY
 from ..plans import Plan
 from ..settings import NodeSettings, by_node
-from ..units import decimal, factor, tidy
+from ..summaries import limit_text, per_hour
 from .base import table
-
-
-def per_hour(word: int, plan: Plan) -> str:
-    """A rate in vehicles per hour."""
-    return tidy(decimal(word / factor("vph", plan.clock.step), 1))
-
-
-def limit_text(word: int, node: int, plan: Plan) -> str:
-    """A limit in the unit of speeds, or in units where the link's length is not known."""
-    return plan.corridor.speed_text(word, node, plan.clock.step)
 
 
 def _rates(found: NodeSettings, corridor: Corridor, plan: Plan) -> str:

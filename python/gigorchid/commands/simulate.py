@@ -2,17 +2,15 @@
 
 from __future__ import annotations
 
-from fractions import Fraction
-
 import click
 from rich.table import Table
 
-from ..figures import MARK, NOT_PROVED, greatest_queues, slowest, travel, waiting_hours
+from ..figures import MARK, greatest_queues, slowest, travel, waiting_hours
 from ..project import Project
 from ..records import Record
-from ..tell import Told, vehicles
-from ..units import KILOMETRES_PER_MILE, SYMBOLS, decimal, nearest, tidy
-from ..corridor import NO_LIMIT
+from ..summaries import QUEUE_COLUMNS, queue_rows, travel_lines
+from ..tell import Told
+from ..verdicts import of_refusal
 from .base import (
     ACCEPTED,
     REFUSED,
@@ -31,41 +29,9 @@ from .base import (
 )
 
 
-def queue_table(project: Project, record: Record) -> Table:
+def queue_table(record: Record) -> Table:
     """The longest queue of each ramp beside its limit."""
-    rows = []
-    for most in greatest_queues(record):
-        limit = "none" if most.limit == NO_LIMIT else tidy(decimal(vehicles(most.limit), 1))
-        share = (
-            ""
-            if most.limit == NO_LIMIT or not most.limit
-            else f"{decimal(Fraction(100 * most.queue, most.limit), 0)} %"
-        )
-        hours = decimal(waiting_hours(record, most.node), 1)
-        label, time = project.corridor.nodes[most.node].label, project.clock.at(most.state)
-        rows.append([label, decimal(vehicles(most.queue), 1), limit, share, time, hours])
-    return table(["ramp", f"longest, veh {MARK}", "limit, veh", f"share {MARK}", f"at {MARK}", f"hours {MARK}"], rows)
-
-
-def travel_lines(record: Record) -> list[str]:
-    """Cost, and the figures that are not proved."""
-    sums = travel(record)
-    total, on_links = (nearest(hours * 10) for hours in (sums.hours, sums.hours_on_links))
-    parts = [decimal(Fraction(tenths, 10), 1) for tenths in (total, on_links, total - on_links)]
-    lines = [
-        f"cost: {record.cost:,} (1/64 vehicle times steps)",
-        f"vehicle hours {MARK}: {parts[0]}, of them {parts[1]} on links and {parts[2]} in queues",
-    ]
-    per, unit = (KILOMETRES_PER_MILE, "miles") if record.corridor.speeds == "mph" else (Fraction(1), "kilometres")
-    symbol = SYMBOLS[record.corridor.speeds]
-    if sums.kilometres is not None and sums.mean_speed is not None:
-        distance, speed = decimal(sums.kilometres / per, 0), decimal(sums.mean_speed / per, 1)
-        lines.append(f"vehicle {unit} {MARK}: {distance}; mean speed on links {MARK}: {speed} {symbol}")
-    slow = slowest(record)
-    if slow is not None:
-        where, when = record.corridor.nodes[slow.node].label, record.clock.at(slow.state)
-        lines.append(f"slowest {MARK}: {decimal(slow.speed, 1)} {symbol} on the link to {where} at {when}")
-    return lines + [NOT_PROVED]
+    return table(QUEUE_COLUMNS, queue_rows(record))
 
 
 def figures_data(project: Project, record: Record) -> dict[str, object]:
@@ -115,14 +81,13 @@ def command(project: str, plan: str, exits: bool, output: str | None) -> Outcome
             raise
         refusal, record = told, Record(told.work, road.corridor, road.clock)
     written = write_record_to(road, output, record)
-    verdict = "VALID" if refusal is None else "NOT VALID"
-    said = "within bounds, and every queue within its limit" if refusal is None else str(refusal)
-    lines: list[Shown] = [f"{road.title}: plan {given.name}", *warned(given), f"{verdict}: {said}"]
+    verdict = of_refusal(refusal)
+    lines: list[Shown] = [f"{road.title}: plan {given.name}", *warned(given), str(verdict)]
     lines += [f"  {line} {MARK}" for line in (refusal.rest if refusal else [])]
-    lines += ["", queue_table(road, record), "", *travel_lines(record), *written]
+    lines += ["", queue_table(record), "", *travel_lines(record), *written]
     data = {
         "plan": given.name,
-        "verdict": verdict,
+        "verdict": verdict.word,
         "refusal": refusal.as_json() if refusal else None,
         "cost_units": record.cost,
         "warnings": given.outside(),

@@ -1,0 +1,254 @@
+"""Pictures of one plan or of two: the maps of their records in rows, with the verdict above and the signs below; as SVG or PNG, the same bytes each time."""
+
+from __future__ import annotations
+
+import io
+import textwrap
+from collections.abc import Sequence
+from typing import Any, NamedTuple
+
+from . import __version__, maps, plots, verdicts
+from .figures import MARK, NOT_PROVED
+from .maps import QUANTITIES, QUEUE, Map
+from .plots import Parts
+from .subjects import Column, Subject
+from .verdicts import Verdict
+
+import matplotlib
+from matplotlib.figure import Figure
+from matplotlib.patches import Patch
+
+FORMATS = ("svg", "png")
+DOTS_PER_INCH = 150
+
+WIDTH = 8.27
+"""Of an A4 page, so that a picture prints with its text in the size that it has."""
+LEFT, RIGHT, BETWEEN = 0.62, 1.3, 0.4
+EDGE, ABOVE, HEADING, BELOW = 0.25, 0.36, 0.2, 0.3
+LOWEST, HIGHEST, PER_NAME = 1.75, 5.0, 0.15
+"""Inches: the margins, what a map has above and below it, and how high it is for the names at its side."""
+IN_A_LINE = 3
+"""Of the signs below the maps."""
+
+STYLE = {
+    "font.family": "DejaVu Sans",
+    "text.parse_math": False,
+    "svg.hashsalt": "gigorchid",
+    "svg.fonttype": "path",
+    "hatch.linewidth": 0.5,
+    "axes.linewidth": 0.6,
+}
+
+
+class Layout(NamedTuple):
+    """How wide a picture is, what stands beside its maps, and the size of its text."""
+
+    width: float = WIDTH
+    left: float = LEFT
+    right: float = RIGHT
+    size: float = plots.TEXT_SIZE
+
+
+WIDE, NARROW = Layout(), Layout(3.9, 0.46, 1.02, 7)
+"""For a page on a screen or on paper, and for one on a phone."""
+
+
+def style() -> Any:
+    """A context in which figures are drawn as here, whatever somebody has set for their own."""
+    defaults = {key: value for key, value in matplotlib.rcParamsDefault.items() if key not in ("backend", "toolbar")}
+    return matplotlib.rc_context({**defaults, **STYLE})
+
+
+def picture(shown: Subject, quantities: Sequence[str] = QUANTITIES) -> Figure:
+    """The maps of each quantity, a row for each, with a column for the plan, or for A, B and B less A."""
+    with style():
+        return _picture(shown, quantities)
+
+
+def _picture(shown: Subject, quantities: Sequence[str]) -> Figure:
+    columns = shown.columns
+    rows = [[column.map(quantity) for column in columns] for quantity in quantities]
+    heights = [map_height(row) for row in rows]
+    lines, signs = textwrap.wrap(_kept_together(str(shown.verdict)), 122), signs_of(rows, columns)
+    above = ABOVE + (HEADING if len(columns) > 1 else 0)
+    head, foot = 0.4 + 0.15 * len(lines), 0.25 + 0.17 * -(-len(signs) // IN_A_LINE)
+    height = head + foot + sum(each + above + BELOW for each in heights)
+    figure = Figure(figsize=(WIDTH, height))
+    _write_heading(figure, shown.title, lines, shown.verdict)
+    bottom = height - head
+    for row, tall in zip(rows, heights):
+        bottom -= above + tall
+        if len(columns) > 1:
+            _write(figure, LEFT, bottom + tall + ABOVE, plots.title_of(row[0], False), 9.5, fontweight="bold")
+        _draw_row(figure, shown, row, (bottom, tall))
+        bottom -= BELOW
+    _write_signs(figure, signs, all(each.proved for row in rows for each in row))
+    return figure
+
+
+def map_height(row: Sequence[Map]) -> float:
+    """How high the maps of a row are, so that the names fit beside them."""
+    names = max(len(each.nodes) + (each.quantity != QUEUE) for each in row)
+    return min(max(PER_NAME * names, LOWEST), HIGHEST)
+
+
+def _draw_row(figure: Figure, shown: Subject, row: Sequence[Map], place: tuple[float, float]) -> None:
+    """Draws the maps of a quantity side by side, from a bottom and so high, in inches."""
+    width, height = figure.get_size_inches()
+    own, last = not shown.one_road, len(shown.columns) - 1
+    for at, (left, wide) in enumerate(_places(shown)):
+        column = shown.columns[at]
+        axes = figure.add_axes([left / width, place[0] / height, wide / width, place[1] / height])
+        title = _shortened(_column_title(column, row[at]), 24) if last else None
+        parts = Parts(own or at == 0, own or at == last, title)
+        draw_column(axes, shown.columns, at, row, parts, plots.TEXT_SIZE)
+
+
+def _places(shown: Subject) -> list[tuple[float, float]]:
+    """Where each column begins, and how wide it is. Columns on one road share its names; others have their own."""
+    count = len(shown.columns)
+    beside = BETWEEN if shown.one_road else LEFT + RIGHT
+    each = (WIDTH - LEFT - RIGHT - beside * (count - 1)) / count
+    return [(LEFT + at * (each + beside), each) for at in range(count)]
+
+
+def draw_column(axes: Any, columns: Sequence[Column], at: int, row: Sequence[Map], parts: Parts, size: float) -> None:
+    """Draws the map of one column, in colours that mean the same for A and for B."""
+    column, difference = columns[at], columns[at].less is not None
+    same = [each for other, each in zip(columns, row) if (other.less is not None) == difference]
+    plots.draw(
+        row[at],
+        column.side.record,
+        plan=column.side.plan,
+        window=column.window,
+        ax=axes,
+        difference=difference,
+        scale=plots.scale_of(same, difference),
+        parts=parts,
+        size=size,
+    )
+
+
+class Sheet(NamedTuple):
+    """A map by itself, for a page: its picture, and where on it the map is, from the left and the top, as shares of the picture."""
+
+    svg: bytes
+    left: float
+    top: float
+    width: float
+    height: float
+
+
+def sheet(columns: Sequence[Column], at: int, row: Sequence[Map], look: Layout) -> Sheet:
+    """The map of one column by itself."""
+    tall = map_height(row)
+    height = ABOVE + tall + BELOW
+    with style():
+        figure = Figure(figsize=(look.width, height))
+        wide = look.width - look.left - look.right
+        axes = figure.add_axes([look.left / look.width, BELOW / height, wide / look.width, tall / height])
+        title = _column_title(columns[at], row[at]) if len(columns) > 1 else ""
+        draw_column(axes, columns, at, row, Parts(title=_shortened(title, 24)), look.size)
+        content = saved(figure, "svg")
+    return Sheet(content, look.left / look.width, ABOVE / height, wide / look.width, tall / height)
+
+
+def _column_title(column: Column, shown: Map) -> str:
+    """What is above a map that has others beside it; the queues of A and B are in percent, and what one has more in vehicles."""
+    if column.less is None:
+        return column.title
+    return f"{column.title}, {shown.unit} {MARK}" if shown.quantity == QUEUE else f"{column.title} {MARK}"
+
+
+def _kept_together(text: str) -> str:
+    """The number of a refusal stays in one line with its word."""
+    return text.replace("[refusal ", "[refusal\u00a0")
+
+
+def _shortened(text: str, most: int) -> str:
+    return text if len(text) <= most else text[: most - 1] + "…"
+
+
+def _write(figure: Figure, left: float, bottom: float, text: str, size: float, **settings: Any) -> None:
+    """Writes a text at a place in inches from the left and from below."""
+    width, height = figure.get_size_inches()
+    figure.text(left / width, bottom / height, text, fontsize=size, va="baseline", **settings)
+
+
+def _write_heading(figure: Figure, title: str, lines: Sequence[str], verdict: Verdict) -> None:
+    """The title, the verdict's word in a box, dark where it is one to stop at, and all of the verdict."""
+    width, height = figure.get_size_inches()
+    dark = verdict.word in verdicts.STOPPING
+    colours = {"facecolor": "black" if dark else "white", "edgecolor": "black", "pad": 3.5}
+    _write(figure, EDGE, height - 0.28, _shortened(title, 78), 10.5, fontweight="bold")
+    _write(
+        figure, width - EDGE, height - 0.28, verdict.word, 9, ha="right", fontweight="bold", color="white" if dark else "black", bbox=colours
+    )  # fmt: skip
+    for at, line in enumerate(lines):
+        _write(figure, EDGE, height - 0.48 - 0.15 * at, line, 8.5)
+
+
+def signs_of(rows: Sequence[Sequence[Map]], columns: Sequence[Column]) -> list[Patch]:
+    """What the marks on these maps mean, of those that are on them."""
+    found: set[str] = set()
+    for row in rows:
+        for shown, column in zip(row, columns):
+            if column.less is None:
+                found |= _signs_on(shown, column)
+            elif plots.missing(shown):
+                found.add("empty")
+    return [_sign(name) for name in SIGNS if name in found]
+
+
+def _signs_on(shown: Map, column: Column) -> set[str]:
+    """The marks on a map of one plan."""
+    plan, record = column.side.plan, column.side.record
+    if shown.quantity != QUEUE:
+        marks = {"held": plots.held(shown, plan).any(), "empty": plots.missing(shown)}
+    else:
+        over = maps.over_limit(record, shown.nodes, shown.states).any()
+        marks = {"over": over, "metered": plots.metered(shown, plan).any(), "unlimited": plots.missing(shown)}
+    return {name for name, there in marks.items() if there}
+
+
+SIGNS: dict[str, dict[str, Any]] = {
+    "held": {"facecolor": "white", "edgecolor": "black", "hatch": "//////", "label": "limit posted below full speed"},
+    "metered": {"facecolor": "black", "edgecolor": "white", "label": "line: metered below the ramp's capacity"},
+    "over": {"facecolor": plots.OVER, "edgecolor": "black", "hatch": "xxxxxx", "label": "▲ queue above its limit"},
+    "unlimited": {"facecolor": plots.NOTHING, "edgecolor": "0.6", "label": "no limit, so no share of it"},
+    "empty": {"facecolor": plots.NOTHING, "edgecolor": "0.6", "label": "less than one vehicle, so no speed"},
+}
+"""How each mark looks, and what it means."""
+
+
+def _sign(name: str) -> Patch:
+    return Patch(**SIGNS[name])
+
+
+def _write_signs(figure: Figure, signs: Sequence[Patch], proved: bool) -> None:
+    width, height = figure.get_size_inches()
+    if signs:
+        figure.legend(
+            handles=signs,
+            loc="lower left",
+            bbox_to_anchor=(EDGE / width, 0.22 / height),
+            ncol=IN_A_LINE,
+            fontsize=7.5,
+            frameon=False,
+            borderpad=0,
+            borderaxespad=0,
+            columnspacing=1.4,
+            handlelength=1.8,
+        )
+    if not proved:
+        _write(figure, EDGE, 0.08, NOT_PROVED, 7.5)
+
+
+def saved(figure: Figure, ending: str) -> bytes:
+    """The bytes of a picture, the same for the same picture."""
+    out = io.BytesIO()
+    told = f"gigorchid {__version__}"
+    metadata = {"Date": None, "Creator": told} if ending == "svg" else {"Software": told}
+    with style():
+        figure.savefig(out, format=ending, dpi=DOTS_PER_INCH, metadata=metadata)
+    return out.getvalue()

@@ -1,0 +1,67 @@
+"""What is shown of one plan or of two: their records, the columns of maps, the title and the verdict."""
+
+from __future__ import annotations
+
+from typing import NamedTuple
+
+from . import verdicts
+from .compare import NOT_COMPARABLE, Comparison, Side, compare
+from .maps import Map, map_of
+from .verdicts import Verdict
+from .windows import Window
+
+DIFFERENCE = "B less A"
+
+
+class Column(NamedTuple):
+    """A column of maps: of a plan, or of what B has more than A."""
+
+    key: str
+    """A, B, or B less A."""
+    title: str
+    side: Side
+    window: Window
+    less: Side | None = None
+
+    def map(self, quantity: str) -> Map:
+        """The column's map of a quantity."""
+        return map_of(self.side.record, quantity, self.window, None if self.less is None else self.less.record)
+
+
+class Subject(NamedTuple):
+    """One plan, or two of which the first is A and the second B."""
+
+    title: str
+    verdict: Verdict
+    columns: list[Column]
+    comparison: Comparison | None = None
+
+    @property
+    def sides(self) -> dict[str, Side]:
+        """The plans by their letters; a plan alone is A."""
+        return {column.key: column.side for column in self.columns if column.less is None}
+
+    @property
+    def one_road(self) -> bool:
+        """Whether all columns show the same road."""
+        return self.comparison is None or self.comparison.verdict != NOT_COMPARABLE
+
+
+def subject(
+    a: Side, b: Side | None = None, start: str | None = None, until: str | None = None, links: str | None = None
+) -> Subject:
+    """What is shown of a plan, or of two, from one time of day until another and from one link to another."""
+    window = Window.of(a.record, start, until, links)
+    if b is None:
+        title = f"{a.project.title}: plan {a.plan.name}"
+        return Subject(title, verdicts.of_plan(a), [Column("A", "", a, window)])
+    found = compare(a, b)
+    columns = [
+        Column("A", f"A, {a.plan.name}", a, window),
+        Column("B", f"B, {b.plan.name}", b, Window.of(b.record, start, until, links)),
+    ]
+    if found.verdict != NOT_COMPARABLE:
+        columns.append(Column(DIFFERENCE, DIFFERENCE, b, window, a))
+    titles = list(dict.fromkeys([a.project.title, b.project.title]))
+    title = f"{' and '.join(titles)}: plans {a.plan.name} (A) and {b.plan.name} (B)"
+    return Subject(title, verdicts.of_comparison(found), columns, found)
