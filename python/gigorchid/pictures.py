@@ -69,7 +69,7 @@ def _picture(shown: Subject, quantities: Sequence[str]) -> Figure:
     columns = shown.columns
     rows = [[column.map(quantity) for column in columns] for quantity in quantities]
     heights = [map_height(row) for row in rows]
-    lines, signs = textwrap.wrap(_kept_together(str(shown.verdict)), 122), signs_of(rows, columns)
+    lines, signs = textwrap.wrap(_kept_together(str(shown.verdict)), 122), sign_names(rows, columns)
     above = ABOVE + (HEADING if len(columns) > 1 else 0)
     head, foot = 0.4 + 0.15 * len(lines), 0.25 + 0.17 * -(-len(signs) // IN_A_LINE)
     height = head + foot + sum(each + above + BELOW for each in heights)
@@ -188,8 +188,8 @@ def _write_heading(figure: Figure, title: str, lines: Sequence[str], verdict: Ve
         _write(figure, EDGE, height - 0.48 - 0.15 * at, line, 8.5)
 
 
-def signs_of(rows: Sequence[Sequence[Map]], columns: Sequence[Column]) -> list[Patch]:
-    """What the marks on these maps mean, of those that are on them."""
+def sign_names(rows: Sequence[Sequence[Map]], columns: Sequence[Column]) -> list[str]:
+    """The marks that are on these maps."""
     found: set[str] = set()
     for row in rows:
         for shown, column in zip(row, columns):
@@ -197,7 +197,7 @@ def signs_of(rows: Sequence[Sequence[Map]], columns: Sequence[Column]) -> list[P
                 found |= _signs_on(shown, column)
             elif plots.missing(shown):
                 found.add("empty")
-    return [_sign(name) for name in SIGNS if name in found]
+    return [name for name in SIGNS if name in found]
 
 
 def _signs_on(shown: Map, column: Column) -> set[str]:
@@ -221,15 +221,11 @@ SIGNS: dict[str, dict[str, Any]] = {
 """How each mark looks, and what it means."""
 
 
-def _sign(name: str) -> Patch:
-    return Patch(**SIGNS[name])
-
-
-def _write_signs(figure: Figure, signs: Sequence[Patch], proved: bool) -> None:
+def _write_signs(figure: Figure, signs: Sequence[str], proved: bool) -> None:
     width, height = figure.get_size_inches()
     if signs:
         figure.legend(
-            handles=signs,
+            handles=[Patch(**SIGNS[name]) for name in signs],
             loc="lower left",
             bbox_to_anchor=(EDGE / width, 0.22 / height),
             ncol=IN_A_LINE,

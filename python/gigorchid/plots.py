@@ -23,11 +23,11 @@ from . import layout
 from .axis_labels import SIGN_WIDTH, Name, label_names, label_times, size_in_points
 from .corridor import NO_LIMIT
 from .figures import MARK
-from .maps import FLOW, QUEUE, SPEED, VEHICLES, Map, has_ramp, map_of, over_limit, to_length
+from .maps import FLOW, QUEUE, SPEED, VEHICLES, Map, has_ramp, map_of, over_limit
 from .plans import Plan
 from .records import Record
 from .tell import vehicles as in_vehicles
-from .units import SYMBOLS, decimal, tidy
+from .units import decimal, tidy
 from .windows import Window, kilometres
 
 TITLES = {VEHICLES: "Vehicles", SPEED: "Speed", FLOW: "Flow", QUEUE: "Queues"}
@@ -147,7 +147,7 @@ def draw(
     """Draws a map on axes, or on those of a new figure, and returns them."""
     axes = _new_axes() if ax is None else ax
     within = Window.whole(record) if window is None else window
-    edges = _edges(shown, record)
+    edges = edges_of(shown, record)
     colours = matplotlib.colormaps[DIFFERENCE_COLOURS if difference else COLOURS[shown.quantity]].copy()
     colours.set_bad(NOTHING)
     ends = scale_of([shown], difference) if scale is None else scale
@@ -170,7 +170,7 @@ def _new_axes() -> Any:
     return axes
 
 
-def _edges(shown: Map, record: Record) -> list[tuple[float, float]]:
+def edges_of(shown: Map, record: Record) -> list[tuple[float, float]]:
     """From where to where each row goes: of links in kilometres or, where a length is missing, in links; of ramps in rows."""
     if shown.quantity == QUEUE:
         return [(float(at), float(at + 1)) for at in range(len(shown.nodes))]
@@ -184,9 +184,9 @@ def _mesh(
     axes: Any, times: list[float], edges: list[tuple[float, float]], shown: Map, colours: Any, ends: Scale
 ) -> Any:
     rows = [low for low, _ in edges] + [edges[-1][1]] if edges else [0.0, 1.0]
-    values = np.ma.masked_invalid(np.where(np.isposinf(shown.values), ends.high, shown.values))
-    if not edges:
-        values = np.ma.masked_all((1, len(times) - 1))
+    values = (
+        np.where(np.isposinf(shown.values), ends.high, shown.values) if edges else np.full((1, len(times) - 1), np.nan)
+    )
     return axes.pcolormesh(times, rows, values, cmap=colours, vmin=ends.low, vmax=ends.high, rasterized=True)
 
 

@@ -1,0 +1,136 @@
+"use strict";
+// Shows the words of the record under the pointer. All figures are words that the page carries; nothing is worked out but vehicles from
+// units, and B less A.
+(() => {
+  const data = JSON.parse(document.getElementById("data").textContent);
+  const panel = document.getElementById("words");
+  const names = ["vehicles", "queue", "flow", "ramp flow"];
+  const settings = ["rate", "limit"];
+
+  const unpack = (text) => {
+    const bytes = Uint8Array.from(atob(text), (sign) => sign.charCodeAt(0));
+    const view = new DataView(bytes.buffer);
+    return Uint32Array.from({ length: bytes.length / 4 }, (_, at) => view.getUint32(4 * at, true));
+  };
+  const sides = Object.fromEntries(
+    Object.entries(data.sides).map(([key, side]) => [key, { ...side, record: unpack(side.record), plan: unpack(side.plan) }]),
+  );
+
+  // The words of a node in a state: of the record, and of the plan for the step that the state begins.
+  const wordsAt = (side, state, node) => {
+    const count = side.nodes.length;
+    const found = names.map((_, place) => side.record[(state * count + node) * names.length + place]);
+    const posted = state < side.times.length - 1;
+    return found.concat(posted ? settings.map((_, place) => side.plan[(state * count + node) * settings.length + place]) : []);
+  };
+
+  // The picture of a map that is shown on this screen: the wide one, or the narrow one.
+  const pictureOf = (figure) => [...figure.querySelectorAll("img")].find((image) => image.offsetWidth > 0);
+  const shapeOf = (figure, map) => map[pictureOf(figure).className];
+
+  const cellOf = (figure, map, right, up) => {
+    const shape = shapeOf(figure, map);
+    const x = (right - shape.left) / shape.width;
+    const y = 1 - (up - shape.top) / shape.height;
+    const column = Math.floor(x * map.columns);
+    const row = map.edges.findIndex((edge, at) => at + 1 < map.edges.length && edge <= y && y < map.edges[at + 1]);
+    return x >= 0 && column < map.filled && row >= 0 ? { column, row } : null;
+  };
+
+  const make = (tag, text, attributes = {}) => {
+    const element = document.createElement(tag);
+    element.textContent = text;
+    for (const [name, value] of Object.entries(attributes)) element.setAttribute(name, value);
+    return element;
+  };
+
+  const rowOf = (map, place, words) => {
+    const row = make("tr", "");
+    const name = names.concat(settings)[place];
+    if (place === map.place) row.className = "shown";
+    row.append(make("td", name));
+    map.sides.forEach((key, at) => {
+      row.append(make("td", words[at][place].toLocaleString("en"), { "data-side": key, "data-word": name, "data-value": words[at][place] }));
+    });
+    if (map.sides.length === 2) {
+      const more = words[1][place] - words[0][place];
+      row.append(make("td", (more > 0 ? "+" : "") + more.toLocaleString("en"), { "data-side": "more", "data-word": name, "data-value": more }));
+    } else {
+      row.append(make("td", place < names.length ? `${(words[0][place] / 64).toFixed(1)} veh` : ""));
+    }
+    return row;
+  };
+
+  const fill = (map, cell) => {
+    const side = sides[map.sides[0]];
+    const state = map.first + cell.column;
+    const node = map.nodes[cell.row];
+    const words = map.sides.map((key) => wordsAt(sides[key], state, node));
+    const told = `${side.times[state]}, ${map.ramps ? "ramp of" : "link to"} ${side.nodes[node]}`;
+    const table = make("table", "");
+    const heads = map.sides.length === 2 ? ["units", "A", "B", "B less A"] : ["", "units", ""];
+    const head = make("tr", "");
+    head.append(...heads.map((text) => make("th", text)));
+    table.append(head, ...words[0].map((_, place) => rowOf(map, place, words)));
+    panel.replaceChildren(make("strong", told, { "data-state": state, "data-node": node }), table);
+  };
+
+  const outline = (figure, map, cell) => {
+    const shape = shapeOf(figure, map);
+    const box = figure.querySelector(".cell");
+    const percent = (share) => `${100 * share}%`;
+    box.style.left = percent(shape.left + (shape.width * cell.column) / map.columns);
+    box.style.width = percent(shape.width / map.columns);
+    box.style.top = percent(shape.top + shape.height * (1 - map.edges[cell.row + 1]));
+    box.style.height = percent(shape.height * (map.edges[cell.row + 1] - map.edges[cell.row]));
+    box.hidden = false;
+    return box.getBoundingClientRect();
+  };
+
+  // Beside the place, on the side where there is room, so that it does not hide what it is about.
+  const place = (x, y) => {
+    const size = panel.getBoundingClientRect();
+    const left = x + 16 + size.width < window.innerWidth ? x + 16 : Math.max(4, x - 16 - size.width);
+    const top = y + 16 + size.height < window.innerHeight ? y + 16 : Math.max(4, y - 16 - size.height);
+    panel.style.left = `${left}px`;
+    panel.style.top = `${top}px`;
+  };
+
+  const hide = () => {
+    panel.hidden = true;
+    document.querySelectorAll(".cell").forEach((box) => { box.hidden = true; });
+  };
+
+  const show = (figure, map, cell, x, y) => {
+    hide();
+    if (!cell) return;
+    fill(map, cell);
+    panel.hidden = false;
+    const box = outline(figure, map, cell);
+    place(x ?? box.right, y ?? box.bottom);
+  };
+
+  document.querySelectorAll(".map").forEach((figure) => {
+    const map = data.maps[Number(figure.dataset.map)];
+    let at = null;
+    const pointed = (event) => {
+      const box = pictureOf(figure).getBoundingClientRect();
+      at = cellOf(figure, map, (event.clientX - box.left) / box.width, (event.clientY - box.top) / box.height);
+      show(figure, map, at, event.clientX, event.clientY);
+    };
+    figure.addEventListener("pointermove", pointed);
+    figure.addEventListener("pointerdown", pointed);
+    figure.addEventListener("pointerleave", (event) => { if (event.pointerType === "mouse") hide(); });
+    figure.addEventListener("blur", hide);
+    figure.addEventListener("keydown", (event) => {
+      const steps = { ArrowLeft: [-1, 0], ArrowRight: [1, 0], ArrowUp: [0, 1], ArrowDown: [0, -1] }[event.key];
+      if (event.key === "Escape") hide();
+      if (!steps || !map.nodes.length) return;
+      event.preventDefault();
+      const within = (value, count) => Math.min(Math.max(value, 0), count - 1);
+      at = at ? { column: within(at.column + steps[0], map.filled), row: within(at.row + steps[1], map.nodes.length) } : { column: 0, row: 0 };
+      show(figure, map, at);
+    });
+  });
+  document.addEventListener("scroll", hide, { passive: true });
+})();
