@@ -12,6 +12,11 @@ python3-numpy module numpy
 python3-pandas module pandas
 python3-click module click
 python3-rich module rich
+python3-matplotlib module matplotlib
+python3-jinja2 module jinja2
+python3-selenium module selenium
+chromium command chromium
+chromium-driver command chromedriver
 python3-pytest module pytest
 python3-hypothesis module hypothesis
 black module black

@@ -98,13 +98,13 @@
 #include <stddef.h>
 #include <stdint.h>
 
-/* The version of this header and of the library that comes with it; the library itself does not tell. New in 0.6.0 is that the library also
- * comes as a shared one, in a Debian package. Every call answers and writes what it did in 0.5.0, and code for it need not change, nor be
- * compiled anew. */
+/* The version of this header and of the library that comes with it; the library itself does not tell. Since 0.6.0 the library also comes
+ * as a shared one, in a Debian package; new in 0.7.0 are two commands of that package. Every call answers and writes what it did in 0.5.0, and
+ * code for it need not change, nor be compiled anew. */
 #define GIGORCHID_VERSION_MAJOR 0
-#define GIGORCHID_VERSION_MINOR 6
+#define GIGORCHID_VERSION_MINOR 7
 #define GIGORCHID_VERSION_PATCH 0
-#define GIGORCHID_VERSION_TEXT "0.6.0"
+#define GIGORCHID_VERSION_TEXT "0.7.0"
 /* The three as one number, to compare: 10,000 x major + 100 x minor + patch. */
 #define GIGORCHID_VERSION (GIGORCHID_VERSION_MAJOR * 10000 + GIGORCHID_VERSION_MINOR * 100 + GIGORCHID_VERSION_PATCH)
 

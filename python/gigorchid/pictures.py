@@ -27,6 +27,7 @@ LEFT, RIGHT, BETWEEN = 0.62, 1.3, 0.4
 EDGE, ABOVE, HEADING, BELOW = 0.25, 0.36, 0.2, 0.3
 LOWEST, HIGHEST, PER_NAME = 1.75, 5.0, 0.15
 """Inches: the margins, what a map has above and below it, and how high it is for the names at its side."""
+TITLE_SIGNS = 74
 IN_A_LINE = 3
 """Of the signs below the maps."""
 
@@ -69,12 +70,13 @@ def _picture(shown: Subject, quantities: Sequence[str]) -> Figure:
     columns = shown.columns
     rows = [[column.map(quantity) for column in columns] for quantity in quantities]
     heights = [map_height(row) for row in rows]
-    lines, signs = textwrap.wrap(_kept_together(str(shown.verdict)), 122), sign_names(rows, columns)
+    titles, signs = _titles(shown), sign_names(rows, columns)
+    lines = textwrap.wrap(_kept_together(str(shown.verdict)), 122)
     above = ABOVE + (HEADING if len(columns) > 1 else 0)
-    head, foot = 0.4 + 0.15 * len(lines), 0.25 + 0.17 * -(-len(signs) // IN_A_LINE)
+    head, foot = 0.2 + 0.19 * len(titles) + 0.15 * len(lines), 0.25 + 0.17 * -(-len(signs) // IN_A_LINE)
     height = head + foot + sum(each + above + BELOW for each in heights)
     figure = Figure(figsize=(WIDTH, height))
-    _write_heading(figure, shown.title, lines, shown.verdict)
+    _write_heading(figure, titles, lines, shown.verdict)
     bottom = height - head
     for row, tall in zip(rows, heights):
         bottom -= above + tall
@@ -84,6 +86,13 @@ def _picture(shown: Subject, quantities: Sequence[str]) -> Figure:
         bottom -= BELOW
     _write_signs(figure, signs, all(each.proved for row in rows for each in row))
     return figure
+
+
+def _titles(shown: Subject) -> list[str]:
+    """The road and the plans, in one line where they fit."""
+    if len(shown.title) <= TITLE_SIGNS:
+        return [shown.title]
+    return textwrap.wrap(shown.road, TITLE_SIGNS) + textwrap.wrap(shown.plans, TITLE_SIGNS)
 
 
 def map_height(row: Sequence[Map]) -> float:
@@ -175,17 +184,18 @@ def _write(figure: Figure, left: float, bottom: float, text: str, size: float, *
     figure.text(left / width, bottom / height, text, fontsize=size, va="baseline", **settings)
 
 
-def _write_heading(figure: Figure, title: str, lines: Sequence[str], verdict: Verdict) -> None:
+def _write_heading(figure: Figure, titles: Sequence[str], lines: Sequence[str], verdict: Verdict) -> None:
     """The title, the verdict's word in a box, dark where it is one to stop at, and all of the verdict."""
     width, height = figure.get_size_inches()
     dark = verdict.word in verdicts.STOPPING
     colours = {"facecolor": "black" if dark else "white", "edgecolor": "black", "pad": 3.5}
-    _write(figure, EDGE, height - 0.28, _shortened(title, 78), 10.5, fontweight="bold")
+    for at, title in enumerate(titles):
+        _write(figure, EDGE, height - 0.28 - 0.19 * at, title, 10.5, fontweight="bold")
     _write(
         figure, width - EDGE, height - 0.28, verdict.word, 9, ha="right", fontweight="bold", color="white" if dark else "black", bbox=colours
     )  # fmt: skip
     for at, line in enumerate(lines):
-        _write(figure, EDGE, height - 0.48 - 0.15 * at, line, 8.5)
+        _write(figure, EDGE, height - 0.29 - 0.19 * len(titles) - 0.15 * at, line, 8.5)
 
 
 def sign_names(rows: Sequence[Sequence[Map]], columns: Sequence[Column]) -> list[str]:

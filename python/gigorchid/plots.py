@@ -38,6 +38,8 @@ NOTHING = "0.87"
 """The grey of what has no figure: no speed without a vehicle, no share of a limit where there is none."""
 OVER = "#d55e00"
 TEXT_SIZE = 8.0
+BOLD_WIDTH = 0.72
+"""How wide a bold sign is, in sizes of the font."""
 MOST_OUTLINES = 400
 """More outlines than this are drawn as points of a picture, so that a file stays small."""
 
@@ -229,7 +231,7 @@ def _label_road(
 def _label_kilometres(axes: Any, shown: Map, record: Record, size: float) -> None:
     long = kilometres(record.corridor) is not None
     axes.set_ylabel("km, travel ↑" if long else "links, no lengths", fontsize=size, labelpad=2)
-    axes.yaxis.set_major_locator(matplotlib.ticker.MaxNLocator(6, integer=not long))
+    axes.yaxis.set_major_locator(matplotlib.ticker.MaxNLocator(6, steps=[1, 2, 5, 10], integer=not long))
 
 
 def _label_limits(axes: Any, shown: Map, record: Record, middles: list[float], size: float) -> None:
@@ -400,7 +402,9 @@ def _head(axes: Any, mesh: Any, shown: Map, difference: bool, parts: Parts, size
     )
     if not parts.scale:
         return
-    long = min(0.5, 150 / width)
+    # As long as the title leaves room for, within reason.
+    left = width - BOLD_WIDTH * (size + 0.5) * len(title)
+    long = max(min(0.5 * width, 150, left), 0.3 * width) / width
     box = axes.inset_axes([1 - long, 1 + 6 / height, long, 6 / height])
     signs = max(len(f"{end:g}") for end in mesh.get_clim()) + 1.5
     room = max(int(long * width / (SIGN_WIDTH * size * signs)), 1)

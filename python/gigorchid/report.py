@@ -9,18 +9,18 @@ from pathlib import Path
 from typing import Any, NamedTuple
 
 import jinja2
-from markupsafe import Markup
 
 from . import __version__, calls, differences, library, maps, pictures, plots, verdicts
 from .compare import NOT_COMPARABLE, SAME, Comparison, Side
 from .figures import MARK, NOT_PROVED, greatest_queues
 from .layout import Words
-from .maps import QUANTITIES, QUEUE, Map
+from .maps import QUANTITIES, QUEUE, SPEED, Map
 from .pictures import NARROW, WIDE, Layout
 from .plans import Plan
 from .records import NARROW as RECORD_WORDS
 from .settings import by_node
 from .subjects import Column, Subject
+from .units import ONE, SYMBOLS, factor
 from .summaries import POSTED_COLUMNS, QUEUE_COLUMNS, limit_text, per_hour, posted_rows, queue_rows, travel_lines
 
 FOLDER = Path(__file__).resolve().parent / "page"
@@ -85,9 +85,9 @@ def page(shown: Subject) -> str:
     )
 
 
-def _source(name: str) -> Markup:
+def _source(name: str) -> str:
     """A file of the page that stands in it as it is."""
-    return Markup((FOLDER / name).read_text())
+    return (FOLDER / name).read_text()
 
 
 def _titled(shown: Subject, key: str) -> str:
@@ -243,7 +243,12 @@ def _as_text(words: Words) -> str:
 
 def _side_data(side: Side) -> dict[str, object]:
     clock, record = side.project.clock, side.record.states[:, :, :RECORD_WORDS]
+    corridor = side.project.corridor
+    sections = [corridor.speed(ONE, node, clock.step) if node else None for node in range(len(corridor.nodes))]
     return {
+        "perHour": float(1 / factor("vph", clock.step)),
+        "sections": [None if speed is None else float(speed) for speed in sections],
+        "speeds": SYMBOLS[corridor.speeds],
         "times": [clock.at(state) for state in range(clock.steps + 1)],
         "nodes": [node.label for node in side.project.corridor.nodes],
         "record": _as_text(record.reshape(-1)),
@@ -288,6 +293,7 @@ def _map_data(column: Column, shown: Map) -> dict[str, object]:
         "sides": [column.key] if column.less is None else ["A", "B"],
         "place": maps.PLACES[shown.quantity],
         "ramps": shown.quantity == QUEUE,
+        "speed": shown.quantity == SPEED,
         "first": shown.first,
         "columns": column.window.last + 1 - column.window.first,
         "filled": len(shown.states),

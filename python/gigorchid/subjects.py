@@ -31,10 +31,16 @@ class Column(NamedTuple):
 class Subject(NamedTuple):
     """One plan, or two of which the first is A and the second B."""
 
-    title: str
+    road: str
+    plans: str
     verdict: Verdict
     columns: list[Column]
     comparison: Comparison | None = None
+
+    @property
+    def title(self) -> str:
+        """The road, and the plans."""
+        return f"{self.road}: {self.plans}"
 
     @property
     def sides(self) -> dict[str, Side]:
@@ -53,8 +59,7 @@ def subject(
     """What is shown of a plan, or of two, from one time of day until another and from one link to another."""
     window = Window.of(a.record, start, until, links)
     if b is None:
-        title = f"{a.project.title}: plan {a.plan.name}"
-        return Subject(title, verdicts.of_plan(a), [Column("A", "", a, window)])
+        return Subject(a.project.title, f"plan {a.plan.name}", verdicts.of_plan(a), [Column("A", "", a, window)])
     found = compare(a, b)
     columns = [
         Column("A", f"A, {a.plan.name}", a, window),
@@ -63,5 +68,5 @@ def subject(
     if found.verdict != NOT_COMPARABLE:
         columns.append(Column(DIFFERENCE, DIFFERENCE, b, window, a))
     titles = list(dict.fromkeys([a.project.title, b.project.title]))
-    title = f"{' and '.join(titles)}: plans {a.plan.name} (A) and {b.plan.name} (B)"
-    return Subject(title, verdicts.of_comparison(found), columns, found)
+    plans = f"plans {a.plan.name} (A) and {b.plan.name} (B)"
+    return Subject(" and ".join(titles), plans, verdicts.of_comparison(found), columns, found)

@@ -5,6 +5,7 @@ import sys
 from pathlib import Path
 
 import numpy as np
+import pytest
 from hypothesis import settings
 
 ROOT = Path(__file__).resolve().parents[2]
@@ -40,3 +41,21 @@ def nodes_of(corridor: np.ndarray) -> np.ndarray:
 def example(name: str) -> bytes:
     """The bytes of an example file of corridor B."""
     return (ROOT / "examples" / "b" / f"{name}.blocks").read_bytes()
+
+
+@pytest.fixture(scope="session")
+def package(tmp_path_factory: pytest.TempPathFactory) -> Path:
+    """The package."""
+    from packages import built
+
+    return built(tmp_path_factory.mktemp("package"))
+
+
+@pytest.fixture(scope="session")
+def unpacked(package: Path, tmp_path_factory: pytest.TempPathFactory) -> Path:
+    """The folder that the package is unpacked into."""
+    from packages import output
+
+    folder = tmp_path_factory.mktemp("unpacked")
+    output("dpkg-deb", "-x", package, folder)
+    return folder

@@ -34,6 +34,12 @@ COMMANDS: dict[str, tuple[str, int]] = {
     "compare_different": ("compare demo:open demo/plan-peak.csv", 1),
     "compare_not_valid": ("compare demo:peak tight", 1),
     "compare_inserted": ("compare demo:peak inserted:peak", 4),
+    "plot": ("plot demo peak -o peak.svg", 0),
+    "plot_not_valid": ("plot demo tight --map queue -o tight.png", 2),
+    "plot_different": ("plot demo open peak --map speed --from 07:00 --until 08:45 --links 1250..1480 -o speed.svg", 1),
+    "plot_inserted": ("plot demo peak inserted:peak --map flow -o inserted.svg", 4),
+    "report": ("report demo peak -o peak.html", 0),
+    "report_same": ("report demo peak revised -o revised.html", 0),
     "search": ("search demo demo/record.csv --at 07:20 --ramp 1380", 0),
     "search_held": ("search demo demo/record.csv --at 07:20 --ramp 1350", 0),
     "explain": ("explain 12", 0),
@@ -57,13 +63,29 @@ WITH_JSON = (
     "compare_same",
     "compare_different",
     "compare_inserted",
+    "plot_not_valid",
+    "report_same",
     "search",
     "explain_answer",
     "pack",
     "unpack",
     "faulty",
 )
-HELP = ("new", "lint", "simulate", "check", "convert", "normal", "compare", "search", "explain", "pack", "unpack")
+HELP = (
+    "new",
+    "lint",
+    "simulate",
+    "check",
+    "convert",
+    "normal",
+    "compare",
+    "plot",
+    "report",
+    "search",
+    "explain",
+    "pack",
+    "unpack",
+)
 
 
 def run(folder: Path, arguments: list[str], program: list[str] | None = None) -> subprocess.CompletedProcess[str]:

@@ -9,49 +9,14 @@ from pathlib import Path
 
 import click
 import pytest
-from conftest import HEADER, ROOT
+from conftest import ROOT
+from packages import MODULES, VERSION, built, output, plain_environment
 
 from gigorchid import library, manual
 
-VERSION = re.findall(r'#define GIGORCHID_VERSION_TEXT "(.*)"', HEADER)[0]
 LIBRARIES = "usr/lib/x86_64-linux-gnu"
-MODULES = "usr/lib/python3/dist-packages"
 DOCUMENTS = "usr/share/doc/gigorchid"
 MANUAL = "usr/share/man/man1/gigorchid.1.gz"
-
-
-def output(*command: object, **settings: object) -> str:
-    """What the command prints; it must succeed."""
-    ran = subprocess.run(list(map(str, command)), capture_output=True, text=True, **settings)
-    assert ran.returncode == 0, ran.stdout + ran.stderr
-    return ran.stdout
-
-
-def plain_environment(**variables: object) -> dict[str, str]:
-    """The environment without what would lead to other modules or another library, and with these variables."""
-    others = {library.VARIABLE, "PYTHONPATH", "PKG_CONFIG_PATH", "LD_LIBRARY_PATH"}
-    kept = {name: value for name, value in os.environ.items() if name not in others}
-    return kept | {name: str(value) for name, value in variables.items()}
-
-
-def built(folder: Path, **settings: object) -> Path:
-    """The package, built into the folder."""
-    output("bash", ROOT / "tools/package/deb.sh", folder, **settings)
-    return folder / f"gigorchid_{VERSION}_amd64.deb"
-
-
-@pytest.fixture(scope="session")
-def package(tmp_path_factory: pytest.TempPathFactory) -> Path:
-    """The package."""
-    return built(tmp_path_factory.mktemp("package"))
-
-
-@pytest.fixture(scope="session")
-def unpacked(package: Path, tmp_path_factory: pytest.TempPathFactory) -> Path:
-    """The folder that the package is unpacked into."""
-    folder = tmp_path_factory.mktemp("unpacked")
-    output("dpkg-deb", "-x", package, folder)
-    return folder
 
 
 @pytest.fixture(scope="session")
@@ -122,7 +87,7 @@ def test_control_fields(package: Path) -> None:
         "Section": "science",
         "Priority": "optional",
         "Maintainer": "Gigorchid maintainers <maintainers@users.noreply.gigorchid.example>",
-        "Depends": "libc6 (>= 2.14), python3 (>= 3.11), python3-numpy, python3-pandas, python3-click, python3-rich",
+        "Depends": "libc6 (>= 2.14), python3 (>= 3.11), python3-numpy, python3-pandas, python3-click, python3-rich, python3-matplotlib, python3-jinja2",
         "Description": "proved freeway metering plans",
     }
 

@@ -1,6 +1,6 @@
 "use strict";
-// Shows the words of the record under the pointer. All figures are words that the page carries; nothing is worked out but vehicles from
-// units, and B less A.
+// Shows the words of the record under the pointer, as the page carries them, and beside them the same in the field's units. The speed, which
+// is flow over vehicles, and B less A are worked out here.
 (() => {
   const data = JSON.parse(document.getElementById("data").textContent);
   const panel = document.getElementById("words");
@@ -44,10 +44,23 @@
     return element;
   };
 
-  const rowOf = (map, place, words) => {
+  const speedOf = (side, node, words) => {
+    const [vehicles, , flow] = words;
+    return side.sections[node] === null || vehicles < 64 ? null : (flow / vehicles) * side.sections[node];
+  };
+
+  // A word in the field's unit: vehicles, vehicles per hour, or a speed.
+  const inUnits = (side, node, place, word) => {
+    const told = (figure, unit) => `${figure.toLocaleString("en", { minimumFractionDigits: 1, maximumFractionDigits: 1 })} ${unit}`;
+    if (place < 2) return told(word / 64, "veh");
+    if (place < 5) return told(word * side.perHour, "veh/h");
+    return side.sections[node] === null ? "" : told((word / 65536) * side.sections[node], side.speeds);
+  };
+
+  const rowOf = (map, node, place, words) => {
     const row = make("tr", "");
     const name = names.concat(settings)[place];
-    if (place === map.place) row.className = "shown";
+    if (place === map.place && !map.speed) row.className = "shown";
     row.append(make("td", name));
     map.sides.forEach((key, at) => {
       row.append(make("td", words[at][place].toLocaleString("en"), { "data-side": key, "data-word": name, "data-value": words[at][place] }));
@@ -56,9 +69,24 @@
       const more = words[1][place] - words[0][place];
       row.append(make("td", (more > 0 ? "+" : "") + more.toLocaleString("en"), { "data-side": "more", "data-word": name, "data-value": more }));
     } else {
-      row.append(make("td", place < names.length ? `${(words[0][place] / 64).toFixed(1)} veh` : ""));
+      row.append(make("td", inUnits(sides[map.sides[0]], node, place, words[0][place])));
     }
     return row;
+  };
+
+  // The speed of a link in each record, and how much more it is in B; a row only where a link's length is known.
+  const speedRow = (map, node, words) => {
+    const speeds = map.sides.map((key, at) => speedOf(sides[key], node, words[at]));
+    const side = sides[map.sides[0]];
+    if (map.ramps || side.sections[node] === null || words[0].length === names.length) return [];
+    const row = make("tr", "");
+    if (map.speed) row.className = "shown";
+    const told = speeds.map((speed) => (speed === null ? "none" : speed.toFixed(1)));
+    const more = speeds.length === 2 && !speeds.includes(null) ? (speeds[1] - speeds[0]).toFixed(1) : "";
+    const unit = told[0] === "none" ? "less than 1 veh" : side.speeds;
+    const cells = speeds.length === 2 ? [...told, more] : [told[0], unit];
+    row.append(make("td", speeds.length === 2 ? `speed *, ${side.speeds}` : "speed *"), ...cells.map((text) => make("td", text)));
+    return [row];
   };
 
   const fill = (map, cell) => {
@@ -71,7 +99,7 @@
     const heads = map.sides.length === 2 ? ["units", "A", "B", "B less A"] : ["", "units", ""];
     const head = make("tr", "");
     head.append(...heads.map((text) => make("th", text)));
-    table.append(head, ...words[0].map((_, place) => rowOf(map, place, words)));
+    table.append(head, ...words[0].map((_, place) => rowOf(map, node, place, words)), ...speedRow(map, node, words));
     panel.replaceChildren(make("strong", told, { "data-state": state, "data-node": node }), table);
   };
 
