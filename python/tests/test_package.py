@@ -35,11 +35,12 @@ def copied(source: str, place: str) -> dict[str, Path]:
 
 def copies() -> dict[str, Path]:
     """Every file of the package that is a copy of one of the sources."""
-    documents = [path for path in (ROOT / "docs/MODEL.md", ROOT / "docs/FORMATS.md") if path.exists()]
+    documents = [ROOT / "docs" / name for name in ("MODEL.md", "FORMATS.md", "USE.md")]
     return {
         **copied("python/gigorchid", f"{MODULES}/gigorchid"),
         **copied("examples/b", f"{DOCUMENTS}/examples/b"),
         **copied("examples/expected", f"{DOCUMENTS}/examples/expected"),
+        **copied("docs/pictures", f"{DOCUMENTS}/pictures"),
         **{f"{DOCUMENTS}/{path.name}": path for path in documents},
         f"{DOCUMENTS}/examples/host.c": ROOT / "examples/host.c",
         f"{DOCUMENTS}/examples/calls.c": ROOT / "examples/calls.c",

@@ -84,7 +84,7 @@ def test_one_version() -> None:
     assert f"gigorchid_{__version__}_amd64.deb" in (ROOT / "README.md").read_text()
 
 
-@pytest.mark.parametrize(("page", "least"), [("README.md", 6), ("docs/FORMATS.md", 3)])
+@pytest.mark.parametrize(("page", "least"), [("README.md", 8), ("docs/FORMATS.md", 5), ("docs/USE.md", 7)])
 def test_the_commands_that_a_page_names_exist(page: str, least: int) -> None:
     named = set(re.findall(r"(?:`|^)gigorchid ([a-z]+)\b", (ROOT / page).read_text(), re.MULTILINE))
     assert named <= set(COMMANDS) and len(named) >= least

@@ -17,12 +17,16 @@ commands=(
     'gigorchid convert demo demo/record.csv -o demo/converted.csv'
     'gigorchid compare demo:peak demo/converted.csv'
     'gigorchid normal demo peak -o demo/normal.blocks'
+    'gigorchid plot demo peak -o demo/peak.svg'
+    'gigorchid plot demo peak revised -o demo/both.png'
+    'gigorchid report demo peak -o demo/peak.html'
     'gigorchid search demo demo/record.csv --at 07:20 --ramp 1350'
     'gigorchid explain 12'
     'gigorchid pack demo --into blocks'
     'gigorchid unpack blocks/corridor.blocks blocks/demands.blocks --into again --like demo'
     'python3 -c "import gigorchid; print(gigorchid.Project.load(\"demo\").simulate(\"peak\").frame().head())"'
     'python3 -c "from gigorchid import library; print(library.path())"'
+    'python3 -c "from gigorchid import Project, plots; plots.queue(Project.load(\"demo\").simulate(\"peak\")).figure.savefig(\"queue.png\")"'
     "gcc $examples/host.c \$(pkg-config --cflags --libs gigorchid) -o host"
     "./host 2 1 $examples/b/corridor.blocks $examples/b/demands.blocks $examples/b/case1.blocks > plan.txt"
     "diff plan.txt $examples/expected/case1.txt"

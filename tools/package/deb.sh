@@ -32,7 +32,7 @@ cp -r python/gigorchid "$modules"
 find "$modules" -name __pycache__ -prune -exec rm -r {} +
 cp -r examples/b examples/expected examples/host.c examples/calls.c "$documents/examples"
 cp docs/MODEL.md $sources/debian/copyright "$documents"
-[ ! -e docs/FORMATS.md ] || cp docs/FORMATS.md "$documents"
+cp -r docs/FORMATS.md docs/USE.md docs/pictures "$documents"
 gzip -9n < $sources/debian/changelog > "$documents/changelog.gz"
 # From the staged modules, so that a module or a data file that is missing there is missed here.
 PYTHONPATH=$modules /usr/bin/python3 -m gigorchid.manual "$version" "$(date --utc --date="@$SOURCE_DATE_EPOCH" +%F)" > "$work/manual"

@@ -81,8 +81,8 @@
     if (map.ramps || side.sections[node] === null || words[0].length === names.length) return [];
     const row = make("tr", "");
     if (map.speed) row.className = "shown";
-    const told = speeds.map((speed) => (speed === null ? "none" : speed.toFixed(1)));
-    const more = speeds.length === 2 && !speeds.includes(null) ? (speeds[1] - speeds[0]).toFixed(1) : "";
+    const told = speeds.map((speed) => (speed === null ? "none" : speed.toFixed(2)));
+    const more = speeds.length === 2 && !speeds.includes(null) ? (speeds[1] - speeds[0]).toFixed(2) : "";
     const unit = told[0] === "none" ? "less than 1 veh" : side.speeds;
     const cells = speeds.length === 2 ? [...told, more] : [told[0], unit];
     row.append(make("td", speeds.length === 2 ? `speed *, ${side.speeds}` : "speed *"), ...cells.map((text) => make("td", text)));
