@@ -6,12 +6,17 @@ from collections.abc import Sequence
 from fractions import Fraction
 from typing import Any, NamedTuple
 
+from matplotlib.font_manager import FontProperties
+from matplotlib.textpath import TextPath
+
 from .times import Clock, format_time
 
 INTERVALS = [1, 2, 5, 10, 15, 30, 60, 120, 300, 600, 900, 1800, 3600, 7200, 10800, 14400, 21600, 43200, 86400]
 """Seconds between the times on an axis."""
 
 LONGEST_NAME = 22
+NAME_DISTANCE = 12
+"""From the axis to the names, in points."""
 NAME_GAP = 1.22
 """The least distance of two names, in sizes of the font."""
 
@@ -83,7 +88,23 @@ def label_times(ax: Any, clock: Clock, first: int, last: int, size: float) -> No
     ax.tick_params(axis="both", labelsize=size, length=3, pad=2)
 
 
-def label_names(ax: Any, names: Sequence[Name], size: float) -> None:
+def name_text(name: Name, longest: int) -> str:
+    """A name as it stands beside an axis."""
+    text = name.text if len(name.text) <= longest else name.text[: longest - 1] + "…"
+    return f"▲ {text}" if name.over else text
+
+
+def width_of(names: Sequence[Name], size: float, longest: int) -> float:
+    """How wide the widest of the names is, in points."""
+    paths = [_path(name_text(name, longest), size, "bold" if name.over else "normal") for name in names]
+    return max((path.get_extents().x1 for path in paths if len(path.vertices)), default=0.0)
+
+
+def _path(text: str, size: float, weight: str) -> Any:
+    return TextPath((0, 0), text, size=size, prop=FontProperties(family="DejaVu Sans", weight=weight))
+
+
+def label_names(ax: Any, names: Sequence[Name], size: float, longest: int) -> None:
     """Puts names at the right, each with a line to its place."""
     low, high = ax.get_ylim()
     _, height = size_in_points(ax)
@@ -91,12 +112,11 @@ def label_names(ax: Any, names: Sequence[Name], size: float) -> None:
     shown = fitting(names, int(height / gap) + 1)
     wanted = [(name.at - low) * scale for name in shown]
     for name, place, at in zip(shown, spread(wanted, gap, -0.2 * gap, height + 0.2 * gap), wanted):
-        text = name.text if len(name.text) <= LONGEST_NAME else name.text[: LONGEST_NAME - 1] + "…"
         ax.annotate(
-            f"▲ {text}" if name.over else text,
+            name_text(name, longest),
             xy=(1, name.at),
             xycoords=("axes fraction", "data"),
-            xytext=(12, place - at),
+            xytext=(NAME_DISTANCE, place - at),
             textcoords="offset points",
             va="center",
             fontsize=size,

@@ -10,6 +10,7 @@ from typing import Any, NamedTuple
 from . import __version__, maps, plots, verdicts
 from .figures import MARK, NOT_PROVED
 from .maps import QUANTITIES, QUEUE, Map
+from .axis_labels import LONGEST_NAME, NAME_DISTANCE, POINTS_PER_INCH, width_of
 from .plots import Parts
 from .subjects import Column, Subject
 from .verdicts import Verdict
@@ -23,7 +24,7 @@ DOTS_PER_INCH = 150
 
 WIDTH = 8.27
 """Of an A4 page, so that a picture prints with its text in the size that it has."""
-LEFT, RIGHT, BETWEEN = 0.62, 1.3, 0.4
+LEFT, BETWEEN = 0.62, 0.4
 EDGE, ABOVE, HEADING, BELOW = 0.25, 0.36, 0.2, 0.3
 LOWEST, HIGHEST, PER_NAME = 1.75, 5.0, 0.15
 """Inches: the margins, what a map has above and below it, and how high it is for the names at its side."""
@@ -42,15 +43,15 @@ STYLE = {
 
 
 class Layout(NamedTuple):
-    """How wide a picture is, what stands beside its maps, and the size of its text."""
+    """How wide a picture is, what it has at its left, the size of its text, and the most signs of a name."""
 
     width: float = WIDTH
     left: float = LEFT
-    right: float = RIGHT
     size: float = plots.TEXT_SIZE
+    longest: int = LONGEST_NAME
 
 
-WIDE, NARROW = Layout(), Layout(3.9, 0.46, 1.02, 7)
+WIDE, NARROW = Layout(), Layout(3.9, 0.46, 7, 16)
 """For a page on a screen or on paper, and for one on a phone."""
 
 
@@ -76,13 +77,14 @@ def _picture(shown: Subject, quantities: Sequence[str]) -> Figure:
     head, foot = 0.2 + 0.19 * len(titles) + 0.15 * len(lines), 0.25 + 0.17 * -(-len(signs) // IN_A_LINE)
     height = head + foot + sum(each + above + BELOW for each in heights)
     figure = Figure(figsize=(WIDTH, height))
+    right = names_width(rows, columns, _look(shown))
     _write_heading(figure, titles, lines, shown.verdict)
     bottom = height - head
     for row, tall in zip(rows, heights):
         bottom -= above + tall
         if len(columns) > 1:
             _write(figure, LEFT, bottom + tall + ABOVE, plots.title_of(row[0], False), 9.5, fontweight="bold")
-        _draw_row(figure, shown, row, (bottom, tall))
+        _draw_row(figure, shown, row, (bottom, tall), right)
         bottom -= BELOW
     _write_signs(figure, signs, all(each.proved for row in rows for each in row))
     return figure
@@ -101,23 +103,37 @@ def map_height(row: Sequence[Map]) -> float:
     return min(max(PER_NAME * names, LOWEST), HIGHEST)
 
 
-def _draw_row(figure: Figure, shown: Subject, row: Sequence[Map], place: tuple[float, float]) -> None:
+def _look(shown: Subject) -> Layout:
+    """Where each of two maps has its own names, these are shorter."""
+    return WIDE if shown.one_road else WIDE._replace(longest=NARROW.longest)
+
+
+def names_width(rows: Sequence[Sequence[Map]], columns: Sequence[Column], look: Layout) -> float:
+    """What the names take at the right of maps, in inches."""
+    names = [
+        plots.names_of(shown, column.side.record, column.window) for row in rows for shown, column in zip(row, columns)
+    ]
+    widest = max(width_of(each, look.size, look.longest) for each in names)
+    return (NAME_DISTANCE + widest + 8) / POINTS_PER_INCH
+
+
+def _draw_row(figure: Figure, shown: Subject, row: Sequence[Map], place: tuple[float, float], right: float) -> None:
     """Draws the maps of a quantity side by side, from a bottom and so high, in inches."""
     width, height = figure.get_size_inches()
     own, last = not shown.one_road, len(shown.columns) - 1
-    for at, (left, wide) in enumerate(_places(shown)):
+    for at, (left, wide) in enumerate(_places(shown, right)):
         column = shown.columns[at]
         axes = figure.add_axes([left / width, place[0] / height, wide / width, place[1] / height])
         title = _shortened(_column_title(column, row[at]), 24) if last else None
-        parts = Parts(own or at == 0, own or at == last, title)
+        parts = Parts(own or at == 0, own or at == last, title, _look(shown).longest)
         draw_column(axes, shown.columns, at, row, parts, plots.TEXT_SIZE)
 
 
-def _places(shown: Subject) -> list[tuple[float, float]]:
+def _places(shown: Subject, right: float) -> list[tuple[float, float]]:
     """Where each column begins, and how wide it is. Columns on one road share its names; others have their own."""
     count = len(shown.columns)
-    beside = BETWEEN if shown.one_road else LEFT + RIGHT
-    each = (WIDTH - LEFT - RIGHT - beside * (count - 1)) / count
+    beside = BETWEEN if shown.one_road else LEFT + right
+    each = (WIDTH - LEFT - right - beside * (count - 1)) / count
     return [(LEFT + at * (each + beside), each) for at in range(count)]
 
 
@@ -148,16 +164,16 @@ class Sheet(NamedTuple):
     height: float
 
 
-def sheet(columns: Sequence[Column], at: int, row: Sequence[Map], look: Layout) -> Sheet:
-    """The map of one column by itself."""
+def sheet(columns: Sequence[Column], at: int, row: Sequence[Map], look: Layout, right: float) -> Sheet:
+    """The map of one column by itself, with so many inches for the names."""
     tall = map_height(row)
     height = ABOVE + tall + BELOW
     with style():
         figure = Figure(figsize=(look.width, height))
-        wide = look.width - look.left - look.right
+        wide = look.width - look.left - right
         axes = figure.add_axes([look.left / look.width, BELOW / height, wide / look.width, tall / height])
         title = _column_title(columns[at], row[at]) if len(columns) > 1 else ""
-        draw_column(axes, columns, at, row, Parts(title=_shortened(title, 24)), look.size)
+        draw_column(axes, columns, at, row, Parts(True, True, _shortened(title, 24), look.longest), look.size)
         content = saved(figure, "svg")
     return Sheet(content, look.left / look.width, ABOVE / height, wide / look.width, tall / height)
 
@@ -214,7 +230,9 @@ def _signs_on(shown: Map, column: Column) -> set[str]:
     """The marks on a map of one plan."""
     plan, record = column.side.plan, column.side.record
     if shown.quantity != QUEUE:
-        marks = {"held": plots.held(shown, plan).any(), "empty": plots.missing(shown)}
+        held = plots.held(shown, plan)
+        sign = "held_often" if plots.many(held) else "held"
+        marks = {sign: held.any(), "empty": plots.missing(shown)}
     else:
         over = maps.over_limit(record, shown.nodes, shown.states).any()
         marks = {"over": over, "metered": plots.metered(shown, plan).any(), "unlimited": plots.missing(shown)}
@@ -223,6 +241,7 @@ def _signs_on(shown: Map, column: Column) -> set[str]:
 
 SIGNS: dict[str, dict[str, Any]] = {
     "held": {"facecolor": "white", "edgecolor": "black", "hatch": "//////", "label": "limit posted below full speed"},
+    "held_often": {"facecolor": "black", "edgecolor": "white", "label": "line: limit posted below full speed"},
     "metered": {"facecolor": "black", "edgecolor": "white", "label": "line: metered below the ramp's capacity"},
     "over": {"facecolor": plots.OVER, "edgecolor": "black", "hatch": "xxxxxx", "label": "▲ queue above its limit"},
     "unlimited": {"facecolor": plots.NOTHING, "edgecolor": "0.6", "label": "no limit, so no share of it"},

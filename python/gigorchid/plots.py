@@ -20,7 +20,7 @@ import matplotlib
 from matplotlib.collections import PolyCollection
 
 from . import layout
-from .axis_labels import SIGN_WIDTH, Name, label_names, label_times, size_in_points
+from .axis_labels import LONGEST_NAME, SIGN_WIDTH, Name, label_names, label_times, size_in_points
 from .corridor import NO_LIMIT
 from .figures import MARK
 from .maps import FLOW, QUEUE, SPEED, VEHICLES, Map, has_ramp, map_of, over_limit
@@ -40,8 +40,12 @@ OVER = "#d55e00"
 TEXT_SIZE = 8.0
 BOLD_WIDTH = 0.72
 """How wide a bold sign is, in sizes of the font."""
-MOST_OUTLINES = 400
-"""More outlines than this are drawn as points of a picture, so that a file stays small."""
+LINE_POINTS = 2.2
+"""How thick the line is that tells when a ramp is metered."""
+MOST_OUTLINES = 60
+"""More held runs than this are underlined, and not outlined."""
+MOST_SHAPES = 400
+"""More shapes than this are drawn as points of a picture, so that a file stays small."""
 
 Mask = npt.NDArray[np.bool_]
 
@@ -112,12 +116,13 @@ class Scale(NamedTuple):
 
 
 class Parts(NamedTuple):
-    """Which parts of a map are drawn: kilometres or limits at the left, names at the right, the title, and the scale of colours."""
+    """Which parts of a map are drawn: kilometres or limits at the left, names at the right, and the title, its own where none is told."""
 
     left: bool = True
     names: bool = True
     title: str | None = None
-    scale: bool = True
+    longest: int = LONGEST_NAME
+    """The most signs of a name."""
 
 
 def rounded_up(value: float) -> float:
@@ -203,29 +208,34 @@ def _called(record: Record, node: int) -> str:
     return known.name or str(known.identifier)
 
 
+def names_of(shown: Map, record: Record, window: Window) -> list[Name]:
+    """The names beside a map: of its ramps, or of all nodes at the ends of its links."""
+    over, edges = _over_full(record, shown), edges_of(shown, record)
+    if shown.quantity == QUEUE:
+        places = [(low + high) / 2 for low, high in edges]
+        return [Name(at, _called(record, node), True, node in over) for at, node in zip(places, shown.nodes)]
+    places = [edges[0][0]] + [high for _, high in edges]
+    return [
+        Name(at, _called(record, node), has_ramp(record, node), node in over) for at, node in zip(places, window.nodes)
+    ]
+
+
 def _label_road(
     axes: Any, shown: Map, record: Record, window: Window, edges: list[tuple[float, float]], parts: Parts, size: float
 ) -> None:
     """Kilometres, or the limits of queues, at the left; names at the right."""
-    over = _over_full(record, shown)
+    names = names_of(shown, record, window)
     if shown.quantity == QUEUE:
-        middles = [(low + high) / 2 for low, high in edges]
-        names = [Name(at, _called(record, node), True, node in over) for at, node in zip(middles, shown.nodes)]
         for low, _ in edges[1:]:
             axes.axhline(low, color="white", linewidth=1.2)
-        _label_limits(axes, shown, record, middles, size)
+        _label_limits(axes, shown, record, [(low + high) / 2 for low, high in edges], size)
     else:
-        ends = [edges[0][0]] + [high for _, high in edges]
-        names = [
-            Name(at, _called(record, node), has_ramp(record, node), node in over)
-            for at, node in zip(ends, window.nodes)
-        ]
         _label_kilometres(axes, shown, record, size)
     if not parts.left:
         axes.set_ylabel("")
         axes.tick_params(axis="y", labelleft=False)
     if parts.names:
-        label_names(axes, names, size)
+        label_names(axes, names, size, parts.longest)
 
 
 def _label_kilometres(axes: Any, shown: Map, record: Record, size: float) -> None:
@@ -270,7 +280,7 @@ def _mark(
         _mark_over(axes, shown, record, edges)
         _tell_unlimited(axes, shown, record, edges, size)
         if plan is not None:
-            _mark_metered(axes, shown, plan, edges)
+            _underline(axes, shown, plan, metered(shown, plan), edges)
     elif plan is not None:
         _mark_held(axes, shown, plan, edges, size)
 
@@ -280,20 +290,19 @@ def _time(record_or_plan: Record | Plan, state: int) -> float:
     return float(clock.start + state * clock.step)
 
 
-def _boxes(shown: Map, source: Record | Plan, flags: Mask, edges: list[tuple[float, float]], high: float) -> list[Any]:
-    """A rectangle for each run of flags in each row, as high as this share of the row."""
+def _boxes(shown: Map, source: Record | Plan, flags: Mask, edges: list[tuple[float, float]]) -> list[Any]:
+    """A rectangle for each run of flags in each row, from one level to another."""
     found = []
-    for row, (low, top) in enumerate(edges):
-        level = low + (top - low) * high
+    for row, (low, high) in enumerate(edges):
         for start, end in _runs(flags[row]):
             left, right = (_time(source, shown.first + at) for at in (start, end))
-            found.append([(left, low), (left, level), (right, level), (right, low)])
+            found.append([(left, low), (left, high), (right, high), (right, low)])
     return found
 
 
 def _outline(axes: Any, boxes: list[Any], **settings: Any) -> None:
     if boxes:
-        axes.add_collection(PolyCollection(boxes, rasterized=len(boxes) > MOST_OUTLINES, **settings), autolim=False)
+        axes.add_collection(PolyCollection(boxes, rasterized=len(boxes) > MOST_SHAPES, **settings), autolim=False)
 
 
 def held(shown: Map, plan: Plan) -> Mask:
@@ -309,7 +318,7 @@ def metered(shown: Map, plan: Plan) -> Mask:
 
 
 def _mark_over(axes: Any, shown: Map, record: Record, edges: list[tuple[float, float]]) -> None:
-    boxes = _boxes(shown, record, over_limit(record, shown.nodes, shown.states), edges, 1)
+    boxes = _boxes(shown, record, over_limit(record, shown.nodes, shown.states), edges)
     _outline(axes, boxes, facecolors=OVER, edgecolors="black", linewidths=0.8, hatch="xxxx")
 
 
@@ -329,38 +338,45 @@ def _tell_unlimited(axes: Any, shown: Map, record: Record, edges: list[tuple[flo
             )
 
 
-def _mark_metered(axes: Any, shown: Map, plan: Plan, edges: list[tuple[float, float]]) -> None:
-    _outline(
-        axes,
-        _boxes(shown, plan, metered(shown, plan), edges, 0.2),
-        facecolors="black",
-        edgecolors="white",
-        linewidths=0.4,
-    )
+def _underline(axes: Any, shown: Map, plan: Plan, flags: Mask, edges: list[tuple[float, float]]) -> None:
+    """A line along the foot of each row where flags are set."""
+    _, height = size_in_points(axes)
+    low, high = axes.get_ylim()
+    thick = LINE_POINTS / height * (high - low)
+    lines = [(bottom, bottom + min(thick, (top - bottom) / 2)) for bottom, top in edges]
+    _outline(axes, _boxes(shown, plan, flags, lines), facecolors="black", linewidths=0)
+
+
+def many(flags: Mask) -> bool:
+    """Whether so many runs of steps are held that outlines would hide the map: they are underlined then."""
+    return sum(len(_runs(row)) for row in flags) > MOST_OUTLINES
 
 
 def _mark_held(axes: Any, shown: Map, plan: Plan, edges: list[tuple[float, float]], size: float) -> None:
     """Outlines that are seen on light and on dark, with the limit where there is room for it."""
     flags = held(shown, plan)
-    boxes = _boxes(shown, plan, flags, edges, 1)
+    if many(flags):
+        _underline(axes, shown, plan, flags, edges)
+        return
+    boxes = _boxes(shown, plan, flags, edges)
     _outline(axes, boxes, facecolors="none", edgecolors="white", linewidths=2.2)
-    _outline(
-        axes,
-        boxes,
-        facecolors="none",
-        edgecolors="black",
-        linewidths=1.0,
-        hatch="///" if len(boxes) < MOST_OUTLINES else None,
-    )
-    width, height = size_in_points(axes)
-    (left, right), (low, high) = axes.get_xlim(), axes.get_ylim()
+    _outline(axes, boxes, facecolors="none", edgecolors="black", linewidths=1.0, hatch="///")
     for row, (bottom, top) in enumerate(edges):
         for start, end in _runs(flags[row]):
-            ends = [_time(plan, shown.first + at) for at in (start, end)]
-            text = _limits_text(plan, shown.nodes[row], shown.first + start, shown.first + end)
-            wide = (ends[1] - ends[0]) / (right - left) * width > SIGN_WIDTH * size * (len(text) + 3)
-            if wide and (top - bottom) / (high - low) * height > size:
-                _write(axes, sum(ends) / 2, (bottom + top) / 2, text, size)
+            _tell_limit(axes, shown, plan, row, (start, end), (bottom, top), size)
+
+
+def _tell_limit(
+    axes: Any, shown: Map, plan: Plan, row: int, run: tuple[int, int], edge: tuple[float, float], size: float
+) -> None:
+    """The limits that are posted in a run of steps, where there is room."""
+    width, height = size_in_points(axes)
+    (left, right), (low, high) = axes.get_xlim(), axes.get_ylim()
+    ends = [_time(plan, shown.first + at) for at in run]
+    text = _limits_text(plan, shown.nodes[row], shown.first + run[0], shown.first + run[1])
+    wide = (ends[1] - ends[0]) / (right - left) * width > SIGN_WIDTH * size * (len(text) + 3)
+    if wide and (edge[1] - edge[0]) / (high - low) * height > size:
+        _write(axes, sum(ends) / 2, sum(edge) / 2, text, size)
 
 
 def _write(axes: Any, x: float, y: float, text: str, size: float) -> None:
@@ -400,22 +416,36 @@ def _head(axes: Any, mesh: Any, shown: Map, difference: bool, parts: Parts, size
         fontsize=size + 0.5,
         fontweight="bold",
     )
-    if not parts.scale:
-        return
     # As long as the title leaves room for, within reason.
     left = width - BOLD_WIDTH * (size + 0.5) * len(title)
     long = max(min(0.5 * width, 150, left), 0.3 * width) / width
     box = axes.inset_axes([1 - long, 1 + 6 / height, long, 6 / height])
-    signs = max(len(f"{end:g}") for end in mesh.get_clim()) + 1.5
-    room = max(int(long * width / (SIGN_WIDTH * size * signs)), 1)
     bar = axes.figure.colorbar(
         mesh, cax=box, orientation="horizontal", extend="max" if _extends(shown, difference) else "neither"
     )
     box.xaxis.set_ticks_position("top")
-    bar.locator = matplotlib.ticker.MaxNLocator(min(room, 4), min_n_ticks=2)
-    bar.update_ticks()
+    low, high = mesh.get_clim()
+    ticks = _ticks(low, high, long * width / (SIGN_WIDTH * (size - 1)))
+    bar.set_ticks(ticks, labels=[_figure(tick) for tick in ticks])
     box.tick_params(labelsize=size - 1, length=2, pad=1)
     bar.outline.set_linewidth(0.5)
+
+
+def _figure(value: float) -> str:
+    """A figure of a scale, with a true minus sign."""
+    text = f"{value:,.0f}" if abs(value) >= 10 or value == round(value) else f"{value:g}"
+    return text.replace("-", "\N{MINUS SIGN}")
+
+
+def _ticks(low: float, high: float, room: float) -> list[float]:
+    """Round figures for a scale that is as long as so many signs, and both its ends; of differences these and nothing."""
+    if low < 0:
+        return [low, 0, high]
+    apart = max(len(_figure(end)) for end in (low, high)) + 1.5
+    most = max(int(room / apart), 1)
+    inner = matplotlib.ticker.MaxNLocator(min(most, 4)).tick_values(low, high)
+    gap = apart / room * (high - low)
+    return [low, *(float(each) for each in inner if low + gap <= each <= high - gap), high]
 
 
 def _extends(shown: Map, difference: bool) -> bool:

@@ -260,11 +260,14 @@ def _maps(shown: Subject) -> tuple[list[Row], dict[str, object]]:
     """The pictures of the maps, row by row, and what the page needs to find the words of a place."""
     rows: list[Row] = []
     data: list[dict[str, object]] = []
-    for quantity in QUANTITIES:
-        found = [column.map(quantity) for column in shown.columns]
+    all_maps = [[column.map(quantity) for column in shown.columns] for quantity in QUANTITIES]
+    rights = {name: pictures.names_width(all_maps, shown.columns, look) for name, look in _LOOKS.items()}
+    for found in all_maps:
         made = []
         for at, column in enumerate(shown.columns):
-            sheets = {name: pictures.sheet(shown.columns, at, found, look) for name, look in _LOOKS.items()}
+            sheets = {
+                name: pictures.sheet(shown.columns, at, found, look, rights[name]) for name, look in _LOOKS.items()
+            }
             told = f"{plots.title_of(found[at], column.less is not None)}{f' of {column.title}' if column.title and not column.less else ''}"
             made.append(
                 {"number": len(data), "told": told} | {name: _address(each.svg) for name, each in sheets.items()}
