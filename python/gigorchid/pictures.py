@@ -17,6 +17,7 @@ from .verdicts import Verdict
 
 import matplotlib
 from matplotlib.figure import Figure
+from matplotlib.lines import Line2D
 from matplotlib.patches import Patch
 
 FORMATS = ("svg", "png")
@@ -72,7 +73,7 @@ def _picture(shown: Subject, quantities: Sequence[str]) -> Figure:
     rows = [[column.map(quantity) for column in columns] for quantity in quantities]
     heights = [map_height(row) for row in rows]
     titles, signs = _titles(shown), sign_names(rows, columns)
-    lines = textwrap.wrap(_kept_together(str(shown.verdict)), 122)
+    lines = [line for said in _said(shown) for line in textwrap.wrap(_kept_together(said), 122)]
     above = ABOVE + (HEADING if len(columns) > 1 else 0)
     head, foot = 0.2 + 0.19 * len(titles) + 0.15 * len(lines), 0.25 + 0.17 * -(-len(signs) // IN_A_LINE)
     height = head + foot + sum(each + above + BELOW for each in heights)
@@ -88,6 +89,12 @@ def _picture(shown: Subject, quantities: Sequence[str]) -> Figure:
         bottom -= BELOW
     _write_signs(figure, signs, all(each.proved for row in rows for each in row))
     return figure
+
+
+def _said(shown: Subject) -> list[str]:
+    """The verdict and, of two plans, which of them is not valid and why."""
+    wrong = [f"{key} is {verdicts.of_plan(side)}" for key, side in shown.sides.items() if side.refusal is not None]
+    return [str(shown.verdict), *(wrong if shown.comparison is not None else [])]
 
 
 def _titles(shown: Subject) -> list[str]:
@@ -221,8 +228,9 @@ def sign_names(rows: Sequence[Sequence[Map]], columns: Sequence[Column]) -> list
         for shown, column in zip(row, columns):
             if column.less is None:
                 found |= _signs_on(shown, column)
-            elif plots.missing(shown):
-                found.add("empty")
+            else:
+                found |= {"few"} if plots.few(shown) else set()
+                found |= {"empty"} if plots.missing(shown) else set()
     return [name for name in SIGNS if name in found]
 
 
@@ -244,6 +252,7 @@ SIGNS: dict[str, dict[str, Any]] = {
     "held_often": {"facecolor": "black", "edgecolor": "white", "label": "line: limit posted below full speed"},
     "metered": {"facecolor": "black", "edgecolor": "white", "label": "line: metered below the ramp's capacity"},
     "over": {"facecolor": plots.OVER, "edgecolor": "black", "hatch": "xxxxxx", "label": "▲ queue above its limit"},
+    "few": {"linestyle": "", **plots.RING, "label": "ring: a place that differs"},
     "unlimited": {"facecolor": plots.NOTHING, "edgecolor": "0.6", "label": "no limit, so no share of it"},
     "empty": {"facecolor": plots.NOTHING, "edgecolor": "0.6", "label": "less than one vehicle, so no speed"},
 }
@@ -254,7 +263,7 @@ def _write_signs(figure: Figure, signs: Sequence[str], proved: bool) -> None:
     width, height = figure.get_size_inches()
     if signs:
         figure.legend(
-            handles=[Patch(**SIGNS[name]) for name in signs],
+            handles=[(Line2D([], [], **SIGNS[name]) if name == "few" else Patch(**SIGNS[name])) for name in signs],
             loc="lower left",
             bbox_to_anchor=(EDGE / width, 0.22 / height),
             ncol=IN_A_LINE,

@@ -42,6 +42,9 @@ BOLD_WIDTH = 0.72
 """How wide a bold sign is, in sizes of the font."""
 LINE_POINTS = 2.2
 """How thick the line is that tells when a ramp is metered."""
+MOST_RINGS = 40
+RING = {"marker": "o", "markersize": 6, "markerfacecolor": "none", "markeredgecolor": "black", "markeredgewidth": 1}
+"""How many places are ringed at most, and how."""
 MOST_OUTLINES = 60
 """More held runs than this are underlined, and not outlined."""
 MOST_SHAPES = 400
@@ -163,7 +166,9 @@ def draw(
     _limit_road(axes, shown, record, within, edges)
     label_times(axes, record.clock, within.first, within.last, size)
     _label_road(axes, shown, record, within, edges, parts, size)
-    if not difference:
+    if difference:
+        _mark_differences(axes, shown, record, edges, size)
+    else:
         _mark(axes, shown, record, plan, edges, size)
     _head(axes, mesh, shown, difference, parts, size)
     return axes
@@ -240,7 +245,7 @@ def _label_road(
 
 def _label_kilometres(axes: Any, shown: Map, record: Record, size: float) -> None:
     long = kilometres(record.corridor) is not None
-    axes.set_ylabel("km, travel ↑" if long else "links, no lengths", fontsize=size, labelpad=2)
+    axes.set_ylabel("km, travel ↑" if long else "links, lengths unknown", fontsize=size, labelpad=2)
     axes.yaxis.set_major_locator(matplotlib.ticker.MaxNLocator(6, steps=[1, 2, 5, 10], integer=not long))
 
 
@@ -283,6 +288,29 @@ def _mark(
             _underline(axes, shown, plan, metered(shown, plan), edges)
     elif plan is not None:
         _mark_held(axes, shown, plan, edges, size)
+
+
+def _differing(shown: Map) -> Mask:
+    """The places of a map of differences that differ; where there is no figure, in the word."""
+    return np.where(np.isnan(shown.values), shown.words != 0, shown.values != 0)
+
+
+def few(shown: Map) -> bool:
+    """Whether so few places of a map of differences differ that each is ringed, since one alone may be finer than a point of the picture."""
+    return 0 < np.count_nonzero(_differing(shown)) <= MOST_RINGS
+
+
+def _mark_differences(axes: Any, shown: Map, record: Record, edges: list[tuple[float, float]], size: float) -> None:
+    """Says that nothing differs, and rings what differs in few places."""
+    if not _differing(shown).any():
+        axes.text(0.5, 0.5, "no difference", transform=axes.transAxes, fontsize=size, ha="center", va="center")
+    if few(shown):
+        places = np.argwhere(_differing(shown))
+        times = [
+            (_time(record, shown.first + at) + _time(record, shown.first + at + 1)) / 2 for _, at in places.tolist()
+        ]
+        levels = [sum(edges[row]) / 2 for row, _ in places.tolist()]
+        axes.plot(times, levels, linestyle="", **RING)
 
 
 def _time(record_or_plan: Record | Plan, state: int) -> float:
