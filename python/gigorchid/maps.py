@@ -40,6 +40,8 @@ class Map(NamedTuple):
     vehicles half the greatest jam density, or the most that there are."""
     proved: bool
     """Whether the figures are the record's words in another unit, and nothing that this package works out."""
+    difference: bool
+    """Whether it is of what one record has more than another."""
 
     @property
     def states(self) -> range:
@@ -74,10 +76,10 @@ def map_of(record: Record, quantity: str, window: Window | None = None, less: Re
     if less is None:
         most = _most(record, quantity)
         most = max(most / 2, float(values[0].max(initial=0))) if quantity == VEHICLES else most
-        return Map(quantity, nodes, shown.first, values[0], words[0], unit, most, proved)
+        return Map(quantity, nodes, shown.first, values[0], words[0], unit, most, proved, False)
     more = values[0] - values[1]
     greatest = float(np.nanmax(np.abs(more), initial=0)) if more.size else 0.0
-    return Map(quantity, nodes, shown.first, more, words[0] - words[1], unit, greatest, proved)
+    return Map(quantity, nodes, shown.first, more, words[0] - words[1], unit, greatest, proved, True)
 
 
 def _most(record: Record, quantity: str) -> float:

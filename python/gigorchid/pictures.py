@@ -7,11 +7,11 @@ import textwrap
 from collections.abc import Sequence
 from typing import Any, NamedTuple
 
-from . import __version__, maps, plots, verdicts
+from . import __version__, drawing, maps, marks, verdicts
 from .figures import MARK, NOT_PROVED
 from .maps import QUANTITIES, QUEUE, Map
 from .axis_labels import LONGEST_NAME, NAME_DISTANCE, POINTS_PER_INCH, width_of
-from .plots import Parts
+from .drawing import Parts, Subjects
 from .subjects import Column, Subject
 from .verdicts import Verdict
 
@@ -48,7 +48,7 @@ class Layout(NamedTuple):
 
     width: float = WIDTH
     left: float = LEFT
-    size: float = plots.TEXT_SIZE
+    size: float = drawing.TEXT_SIZE
     longest: int = LONGEST_NAME
 
 
@@ -84,7 +84,7 @@ def _picture(shown: Subject, quantities: Sequence[str]) -> Figure:
     for row, tall in zip(rows, heights):
         bottom -= above + tall
         if len(columns) > 1:
-            _write(figure, LEFT, bottom + tall + ABOVE, plots.title_of(row[0], False), 9.5, fontweight="bold")
+            _write(figure, LEFT, bottom + tall + ABOVE, drawing.title_of(row[0]), 9.5, fontweight="bold")
         _draw_row(figure, shown, row, (bottom, tall), right)
         bottom -= BELOW
     _write_signs(figure, signs, all(each.proved for row in rows for each in row))
@@ -117,9 +117,7 @@ def _look(shown: Subject) -> Layout:
 
 def names_width(rows: Sequence[Sequence[Map]], columns: Sequence[Column], look: Layout) -> float:
     """What the names take at the right of maps, in inches."""
-    names = [
-        plots.names_of(shown, column.side.record, column.window) for row in rows for shown, column in zip(row, columns)
-    ]
+    names = [drawing.names_of(shown, _of(column)) for row in rows for shown, column in zip(row, columns)]
     widest = max(width_of(each, look.size, look.longest) for each in names)
     return (NAME_DISTANCE + widest + 8) / POINTS_PER_INCH
 
@@ -133,7 +131,7 @@ def _draw_row(figure: Figure, shown: Subject, row: Sequence[Map], place: tuple[f
         axes = figure.add_axes([left / width, place[0] / height, wide / width, place[1] / height])
         title = _shortened(_column_title(column, row[at]), 24) if last else None
         parts = Parts(own or at == 0, own or at == last, title, _look(shown).longest)
-        draw_column(axes, shown.columns, at, row, parts, plots.TEXT_SIZE)
+        draw_column(axes, shown.columns, at, row, parts, drawing.TEXT_SIZE)
 
 
 def _places(shown: Subject, right: float) -> list[tuple[float, float]]:
@@ -146,19 +144,14 @@ def _places(shown: Subject, right: float) -> list[tuple[float, float]]:
 
 def draw_column(axes: Any, columns: Sequence[Column], at: int, row: Sequence[Map], parts: Parts, size: float) -> None:
     """Draws the map of one column, in colours that mean the same for A and for B."""
-    column, difference = columns[at], columns[at].less is not None
-    same = [each for other, each in zip(columns, row) if (other.less is not None) == difference]
-    plots.draw(
-        row[at],
-        column.side.record,
-        plan=column.side.plan,
-        window=column.window,
-        ax=axes,
-        difference=difference,
-        scale=plots.scale_of(same, difference),
-        parts=parts,
-        size=size,
-    )
+    same = [each for each in row if each.difference == row[at].difference]
+    drawing.draw(row[at], _of(columns[at]), axes, drawing.scale_of(same), parts, size)
+
+
+def _of(column: Column) -> Subjects:
+    """What a column's maps are of."""
+    side, less = column.side, None if column.less is None else column.less.record
+    return Subjects(side.record, side.plan, less, column.window)
 
 
 class Sheet(NamedTuple):
@@ -229,32 +222,31 @@ def sign_names(rows: Sequence[Sequence[Map]], columns: Sequence[Column]) -> list
             if column.less is None:
                 found |= _signs_on(shown, column)
             else:
-                found |= {"few"} if plots.few(shown) else set()
-                found |= {"empty"} if plots.missing(shown) else set()
+                found |= {"few"} if marks.few(shown) else set()
+                found |= {"empty"} if drawing.missing(shown) else set()
     return [name for name in SIGNS if name in found]
 
 
 def _signs_on(shown: Map, column: Column) -> set[str]:
     """The marks on a map of one plan."""
     plan, record = column.side.plan, column.side.record
-    if shown.quantity != QUEUE:
-        held = plots.held(shown, plan)
-        sign = "held_often" if plots.many(held) else "held"
-        marks = {sign: held.any(), "empty": plots.missing(shown)}
-    else:
+    if shown.quantity == QUEUE:
         over = maps.over_limit(record, shown.nodes, shown.states).any()
-        marks = {"over": over, "metered": plots.metered(shown, plan).any(), "unlimited": plots.missing(shown)}
-    return {name for name, there in marks.items() if there}
+        found = {"over": over, "metered": marks.metered(shown, plan).any(), "unlimited": drawing.missing(shown)}
+    else:
+        held = marks.held(shown, plan)
+        found = {"held_often" if marks.many(held) else "held": held.any(), "empty": drawing.missing(shown)}
+    return {name for name, there in found.items() if there}
 
 
 SIGNS: dict[str, dict[str, Any]] = {
     "held": {"facecolor": "white", "edgecolor": "black", "hatch": "//////", "label": "limit posted below full speed"},
     "held_often": {"facecolor": "black", "edgecolor": "white", "label": "line: limit posted below full speed"},
     "metered": {"facecolor": "black", "edgecolor": "white", "label": "line: metered below the ramp's capacity"},
-    "over": {"facecolor": plots.OVER, "edgecolor": "black", "hatch": "xxxxxx", "label": "▲ queue above its limit"},
-    "few": {"linestyle": "", **plots.RING, "label": "ring: a place that differs"},
-    "unlimited": {"facecolor": plots.NOTHING, "edgecolor": "0.6", "label": "no limit, so no share of it"},
-    "empty": {"facecolor": plots.NOTHING, "edgecolor": "0.6", "label": "less than one vehicle, so no speed"},
+    "over": {"facecolor": marks.OVER, "edgecolor": "black", "hatch": "xxxxxx", "label": "▲ queue above its limit"},
+    "few": {"linestyle": "", **marks.RING, "label": "ring: a place that differs"},
+    "unlimited": {"facecolor": drawing.NOTHING, "edgecolor": "0.6", "label": "no limit, so no share of it"},
+    "empty": {"facecolor": drawing.NOTHING, "edgecolor": "0.6", "label": "less than one vehicle, so no speed"},
 }
 """How each mark looks, and what it means."""
 

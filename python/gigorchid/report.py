@@ -10,7 +10,7 @@ from typing import Any, NamedTuple
 
 import jinja2
 
-from . import __version__, calls, differences, library, maps, pictures, plots, verdicts
+from . import __version__, calls, differences, drawing, library, maps, pictures, verdicts
 from .compare import NOT_COMPARABLE, SAME, Comparison, Side
 from .figures import MARK, NOT_PROVED, greatest_queues
 from .layout import Words
@@ -268,14 +268,14 @@ def _maps(shown: Subject) -> tuple[list[Row], dict[str, object]]:
             sheets = {
                 name: pictures.sheet(shown.columns, at, found, look, rights[name]) for name, look in _LOOKS.items()
             }
-            told = f"{plots.title_of(found[at], column.less is not None)}{f' of {column.title}' if column.title and not column.less else ''}"
+            told = f"{drawing.title_of(found[at])}{f' of {column.title}' if column.title and not column.less else ''}"
             made.append(
                 {"number": len(data), "told": told} | {name: _address(each.svg) for name, each in sheets.items()}
             )
             data.append(
                 _map_data(column, found[at]) | {name: each._asdict() | {"svg": None} for name, each in sheets.items()}
             )
-        rows.append(Row(plots.title_of(found[0], False), made))
+        rows.append(Row(drawing.title_of(found[0]), made))
     return rows, {"sides": {key: _side_data(side) for key, side in shown.sides.items()}, "maps": data}
 
 
@@ -289,7 +289,7 @@ def _address(svg: bytes) -> str:
 
 def _map_data(column: Column, shown: Map) -> dict[str, object]:
     """Where the words of a map's places stand, and where its rows are from below, as shares of its height."""
-    edges = plots.edges_of(shown, column.side.record)
+    edges = drawing.edges_of(shown, column.side.record)
     low, high = (edges[0][0], edges[-1][1]) if edges else (0.0, 1.0)
     levels = [low, *(top for _, top in edges)] if edges else []
     return {
