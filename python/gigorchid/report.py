@@ -92,7 +92,7 @@ def _source(name: str) -> str:
 
 def _titled(shown: Subject, key: str) -> str:
     """The heading of what is said of one of two plans."""
-    return "" if shown.comparison is None else f"{key}, {shown.sides[key].plan.name}"
+    return "" if shown.comparison is None else f"{key}, {shown.names[key]}"
 
 
 def _beneath(shown: Subject) -> list[str]:
@@ -100,7 +100,7 @@ def _beneath(shown: Subject) -> list[str]:
     lines = []
     for key, side in shown.sides.items():
         if shown.comparison is not None:
-            lines.append(f"{key}: {differences.named(side, side.plan.name)}")
+            lines.append(f"{key}: {differences.named(side, shown.names[key])}")
         lines += [f"{line} {MARK}" for line in (side.refusal.rest if side.refusal else [])]
         lines += [f"warning: {each}" for each in side.plan.outside()]
     return lines
@@ -211,7 +211,7 @@ def _node_row(plan: Plan, found: Any) -> list[str]:
 
 def _signed(shown: Subject) -> str:
     """What a signature is put to."""
-    plans = " and ".join(side.plan.name for side in shown.sides.values())
+    plans = " and ".join(shown.names.values())
     many = "plans" if len(shown.sides) > 1 else "plan"
     seen = " A signature says that this was seen, not that a plan may run that is not valid."
     invalid = any(side.refusal is not None for side in shown.sides.values())

@@ -18,7 +18,10 @@ class Column(NamedTuple):
 
     key: str
     """A, B, or B less A."""
+    name: str
+    """What the plan is called; of plans of two projects, with the project's folder."""
     title: str
+    """What stands above the map of one of several columns."""
     side: Side
     window: Window
     less: Side | None = None
@@ -48,6 +51,11 @@ class Subject(NamedTuple):
         return {column.key: column.side for column in self.columns if column.less is None}
 
     @property
+    def names(self) -> dict[str, str]:
+        """What the plans are called, by their letters."""
+        return {column.key: column.name for column in self.columns if column.less is None}
+
+    @property
     def one_road(self) -> bool:
         """Whether all columns show the same road."""
         return self.comparison is None or self.comparison.verdict != NOT_COMPARABLE
@@ -59,14 +67,24 @@ def subject(
     """What is shown of a plan, or of two, from one time of day until another and from one link to another."""
     window = Window.of(a.record, start, until, links)
     if b is None:
-        return Subject(a.project.title, f"plan {a.plan.name}", verdicts.of_plan(a), [Column("A", "", a, window)])
+        name = a.plan.name
+        return Subject(a.project.title, f"plan {name}", verdicts.of_plan(a), [Column("A", name, "", a, window)])
     found = compare(a, b)
+    names = _names(a, b)
     columns = [
-        Column("A", f"A, {a.plan.name}", a, window),
-        Column("B", f"B, {b.plan.name}", b, Window.of(b.record, start, until, links)),
+        Column("A", names[0], f"A, {names[0]}", a, window),
+        Column("B", names[1], f"B, {names[1]}", b, Window.of(b.record, start, until, links)),
     ]
     if found.verdict != NOT_COMPARABLE:
-        columns.append(Column(DIFFERENCE, DIFFERENCE, b, window, a))
+        columns.append(Column(DIFFERENCE, DIFFERENCE, DIFFERENCE, b, window, a))
     titles = list(dict.fromkeys([a.project.title, b.project.title]))
-    plans = f"plans {a.plan.name} (A) and {b.plan.name} (B)"
+    plans = f"plans {names[0]} (A) and {names[1]} (B)"
     return Subject(" and ".join(titles), plans, verdicts.of_comparison(found), columns, found)
+
+
+def _names(a: Side, b: Side) -> list[str]:
+    """What two plans are called: as PROJECT:PLAN where they are of two projects."""
+    folders = [side.project.folder.resolve() for side in (a, b)]
+    if folders[0] == folders[1]:
+        return [a.plan.name, b.plan.name]
+    return [f"{folder.name}:{side.plan.name}" for folder, side in zip(folders, (a, b))]

@@ -72,7 +72,7 @@ def outcome(shown: Subject, output: str, **more: object) -> Outcome:
     """What was shown, the verdict, and where it was written."""
     plans = [side.plan for side in shown.sides.values()]
     data: dict[str, object] = {
-        "plans": {key: side.plan.name for key, side in shown.sides.items()},
+        "plans": shown.names,
         "verdict": shown.verdict.word,
         "said": str(shown.verdict),
         "warnings": {key: side.plan.outside() for key, side in shown.sides.items()},
