@@ -67,7 +67,11 @@ MPH: Files = changed(
 )
 MISSING: Files = changed(
     VALLEY,
-    ("corridor.csv", "free_speed_kmh,wave_speed_kmh,jam_density_vpkm", "free_speed_units,wave_speed_units,jam_density_veh"),
+    (
+        "corridor.csv",
+        "free_speed_kmh,wave_speed_kmh,jam_density_vpkm",
+        "free_speed_units,wave_speed_units,jam_density_veh",
+    ),
     ("corridor.csv", "drop_density_vpkm", "drop_density_veh"),
     ("corridor.csv", f"{MILL}200,", "20,Mill Road,500,4500,32768,6554,100,"),
     ("corridor.csv", "30,Bridge,600,4500,90,18,200,", "30,Bridge,,4500,27307,5461,120,"),
@@ -335,7 +339,9 @@ def test_the_colours_end_at_what_the_corridor_can_have(name: str) -> None:
     capacities = [float(Fraction(place.corridor_word(link, CAPACITY), 64) * 3600 / step) for link in links]
     full = [(65_536, 0, place.corridor_word(link, FULL_SPEED), 0) for link in links]
     speeds = [figure(place, place.record, "speed", link, words) for link, words in zip(links, full)]
-    jams = [Fraction(place.corridor_word(link, JAM), 64) / (place.lengths[link] / 1000 if known else 1) for link in links]
+    jams = [
+        Fraction(place.corridor_word(link, JAM), 64) / (place.lengths[link] / 1000 if known else 1) for link in links
+    ]
     found = {quantity: map_of(place.record, quantity) for quantity in QUANTITIES}
     assert found["flow"].most == pytest.approx(max(capacities), rel=1e-12)
     assert found["speed"].most == pytest.approx(max(speeds), rel=1e-12)
@@ -350,7 +356,9 @@ def test_the_colours_end_at_what_the_corridor_can_have(name: str) -> None:
 def test_a_record_may_have_any_words(words: list[int]) -> None:
     """Whatever somebody proposes, no word wraps round, also where one is taken from another."""
     project = road("b").project
-    a, b = (Record(np.array([*part, 0, 0], np.uint32), project.corridor, project.clock) for part in (words[:24], words[24:]))
+    a, b = (
+        Record(np.array([*part, 0, 0], np.uint32), project.corridor, project.clock) for part in (words[:24], words[24:])
+    )
     place = road("b")
     for quantity in QUANTITIES:
         shown, less = map_of(a, quantity), map_of(a, quantity, less=b)
@@ -373,7 +381,9 @@ def test_ramps_are_those_with_a_capacity_or_a_queue_in_any_record() -> None:
     words[4 * (3 * 4 + 2) + 1] = 5
     waiting = Record(words, place.project.corridor, place.project.clock)
     assert has_ramp(waiting, 2) and not has_ramp(waiting, 3)
-    assert ramps(whole, waiting) == ramps(whole, place.record, waiting) == ramps(whole, waiting, place.record) == [0, 1, 2]
+    assert (
+        ramps(whole, waiting) == ramps(whole, place.record, waiting) == ramps(whole, waiting, place.record) == [0, 1, 2]
+    )
     assert map_of(place.record, "queue", less=waiting).words[2].tolist() == [0, 0, 0, -5, 0, 0, 0]
 
 
@@ -479,7 +489,12 @@ def test_nothing_is_no_name_of_a_node_without_one(text: str) -> None:
         assert raised.value.option == "links" and "no link ends at nothing" in str(raised.value)
 
 
-WINDOWS = [("07:00", "08:00", "Ashby..Barrett"), (None, "06:10", None), ("08:30", None, "1600"), (None, None, "1320..1430")]
+WINDOWS = [
+    ("07:00", "08:00", "Ashby..Barrett"),
+    (None, "06:10", None),
+    ("08:30", None, "1600"),
+    (None, None, "1320..1430"),
+]
 
 
 @pytest.mark.parametrize("quantity", QUANTITIES)
@@ -504,13 +519,13 @@ def assert_cut(whole: Map, cut: Map, window: Window) -> None:
     np.testing.assert_array_equal(cut.values, whole.values[np.ix_(rows, columns)])
 
 
-@pytest.mark.parametrize("quantity", QUANTITIES)
+@pytest.mark.parametrize("quantity", ["vehicles", "speed", "flow"])
 def test_a_window_has_the_unit_of_the_whole_where_a_length_outside_is_missing(quantity: str) -> None:
     """Else the colours of a link end at a figure of another unit, and its axis has no kilometres."""
     place = road("missing length")
     whole, cut = map_of(place.record, quantity), map_of(place.record, quantity, Window.of(place.record, links="40"))
     assert (cut.unit, cut.most) == (whole.unit, whole.most)
-    np.testing.assert_array_equal(cut.values[-1], whole.values[2 if quantity != "queue" else -1])
+    np.testing.assert_array_equal(cut.values, whole.values[2:])
 
 
 def test_the_last_state_has_vehicles_and_queues_and_no_flow() -> None:
@@ -604,7 +619,12 @@ def test_of_too_many_ramps_some_are_named_from_end_to_end(over: bool) -> None:
     assert max(apart) <= 6 and found[0].at <= 6 and found[-1].at >= 53
 
 
-@given(st.integers(0, 30 * 3600), st.sampled_from(["0.5", "1", "7.5", "10", "60"]), st.integers(1, 1441), st.floats(15, 200))
+@given(
+    st.integers(0, 30 * 3600),
+    st.sampled_from(["0.5", "1", "7.5", "10", "60"]),
+    st.integers(1, 1441),
+    st.floats(15, 200),
+)
 def test_times_are_round_within_the_axis_and_no_more_than_it_has_room_for(
     start: int, step: str, states: int, width: float
 ) -> None:
