@@ -2,12 +2,15 @@
 
 from __future__ import annotations
 
-from collections.abc import Sequence
+import warnings
+from collections.abc import Iterator, Sequence
+from contextlib import contextmanager
 from fractions import Fraction
+from functools import lru_cache
 from typing import Any, NamedTuple
 
 from matplotlib.font_manager import FontProperties
-from matplotlib.textpath import TextPath
+from matplotlib.textpath import text_to_path
 
 from .times import Clock, format_time
 
@@ -61,15 +64,13 @@ def spread(wanted: Sequence[float], gap: float, low: float, high: float) -> list
 
 
 def fitting(names: Sequence[Name], room: int) -> list[Name]:
-    """The names that there is room for: those of ramps before others, and of too many ramps some, evenly, with all that are over-full."""
-    if len(names) <= room:
-        return list(names)
-    ramps = [name for name in names if name.ramp]
-    over = [name for name in ramps if name.over][:room]
-    others = [name for name in ramps if name not in over]
-    left = room - len(over)
-    kept = others if len(others) <= left else [others[at * len(others) // left] for at in range(left)]
-    return sorted(over + kept)
+    """The names that there is room for: those of over-full ramps first, then of other ramps, then others; of too many some, evenly."""
+    kept: list[Name] = []
+    for rank in (2, 1, 0):
+        each = [name for name in names if name.ramp + name.over == rank]
+        left = room - len(kept)
+        kept += each if len(each) <= left else [each[at * len(each) // left] for at in range(left)]
+    return sorted(kept)
 
 
 def size_in_points(ax: Any) -> tuple[float, float]:
@@ -96,12 +97,35 @@ def name_text(name: Name, longest: int) -> str:
 
 def width_of(names: Sequence[Name], size: float, longest: int) -> float:
     """How wide the widest of the names is, in points."""
-    paths = [_path(name_text(name, longest), size, "bold" if name.over else "normal") for name in names]
-    return max((path.get_extents().x1 for path in paths if len(path.vertices)), default=0.0)
+    return max((text_width(name_text(name, longest), size, name.over) for name in names), default=0.0)
 
 
-def _path(text: str, size: float, weight: str) -> Any:
-    return TextPath((0, 0), text, size=size, prop=FontProperties(family="DejaVu Sans", weight=weight))
+@lru_cache(maxsize=4096)
+def text_width(text: str, size: float, bold: bool = False) -> float:
+    """How wide a text is, in points."""
+    font = FontProperties(family="DejaVu Sans", weight="bold" if bold else "normal", size=size)
+    with quiet():
+        return float(text_to_path.get_text_width_height_descent(text, font, ismath=False)[0])
+
+
+@contextmanager
+def quiet() -> Iterator[None]:
+    """Says nothing of letters that the font lacks, which are drawn as boxes; a page has all names as text too."""
+    with warnings.catch_warnings():
+        warnings.filterwarnings("ignore", "Glyph .* missing from current font")
+        yield
+
+
+def wrapped(text: str, size: float, width: float, bold: bool = False) -> list[str]:
+    """A text in lines that are no wider than so many points, but for a word that is."""
+    lines: list[str] = []
+    for word in text.split(" "):
+        longer = f"{lines[-1]} {word}" if lines else word
+        if lines and text_width(longer, size, bold) <= width:
+            lines[-1] = longer
+        else:
+            lines.append(word)
+    return lines
 
 
 def label_names(ax: Any, names: Sequence[Name], size: float, longest: int) -> None:
@@ -123,6 +147,7 @@ def label_names(ax: Any, names: Sequence[Name], size: float, longest: int) -> No
             fontweight="bold" if name.over else "normal",
             color="black" if name.ramp else "0.4",
             annotation_clip=False,
+            parse_math=False,
             arrowprops={
                 "arrowstyle": "-",
                 "linewidth": 0.5,

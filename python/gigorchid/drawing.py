@@ -14,7 +14,18 @@ logging.getLogger("matplotlib").setLevel(logging.ERROR)
 import matplotlib
 
 from . import layout
-from .axis_labels import LONGEST_NAME, SIGN_WIDTH, Name, label_names, label_times, size_in_points
+from .axis_labels import (
+    LONGEST_NAME,
+    NAME_DISTANCE,
+    POINTS_PER_INCH,
+    SIGN_WIDTH,
+    Name,
+    label_names,
+    label_times,
+    size_in_points,
+    text_width,
+    width_of,
+)
 from .corridor import NO_LIMIT
 from .figures import MARK
 from .maps import FLOW, QUEUE, SPEED, VEHICLES, Map, has_ramp, over_limit
@@ -29,11 +40,9 @@ TITLES = {VEHICLES: "Vehicles", SPEED: "Speed", FLOW: "Flow", QUEUE: "Queues"}
 COLOURS = {VEHICLES: "YlGnBu", SPEED: "YlGnBu_r", FLOW: "YlGnBu", QUEUE: "YlGnBu"}
 """Dark where there are many vehicles, or slow ones; the lightness alone tells which, also on a grey print."""
 DIFFERENCE_COLOURS = "PuOr_r"
-NOTHING = "0.87"
+NOTHING = "0.8"
 """The grey of what has no figure: no speed without a vehicle, no share of a limit where there is none."""
 TEXT_SIZE = 8.0
-BOLD_WIDTH = 0.72
-"""How wide a bold sign is, in sizes of the font."""
 
 
 class Scale(NamedTuple):
@@ -112,7 +121,8 @@ def _mesh(frame: Frame, scale: Scale) -> Any:
     """The colours; what is infinitely far above the scale is as what is just above it."""
     shown, edges = frame.shown, frame.edges
     colours = matplotlib.colormaps[DIFFERENCE_COLOURS if shown.difference else COLOURS[shown.quantity]].copy()
-    colours.set_bad(NOTHING)
+    colours.set_bad(NOTHING if edges else "white")
+    frame.axes.set_facecolor(NOTHING)
     times = [frame.time(column) for column in range(len(shown.states) + 1)]
     rows = [low for low, _ in edges] + [_ends(edges)[1]] if edges else [0.0, 1.0]
     values = np.where(np.isposinf(shown.values), scale.high, shown.values)
@@ -124,13 +134,19 @@ def _mesh(frame: Frame, scale: Scale) -> Any:
 def names_of(shown: Map, of: Subjects) -> list[Name]:
     """The names beside a map: of its ramps, or of all nodes at the ends of its links."""
     record, edges = of.record, edges_of(shown, of.record)
-    over = {node for each in (record, of.less) if each is not None for node in _over_full(each, shown.states)}
+    states = range(of.window.first, of.window.last + 1)
+    over = {node for each in (record, of.less) if each is not None for node in _over_full(each, states)}
     if shown.quantity == QUEUE:
         nodes, places = shown.nodes, [(low + high) / 2 for low, high in edges]
     else:
         nodes, places = list(of.window.nodes), [edges[0][0]] + [high for _, high in edges]
     known = [has_ramp(record, node) or (of.less is not None and has_ramp(of.less, node)) for node in nodes]
     return [Name(at, _called(record, node), ramp, node in over) for at, node, ramp in zip(places, nodes, known)]
+
+
+def names_width(shown: Map, of: Subjects, size: float = TEXT_SIZE, longest: int = LONGEST_NAME) -> float:
+    """What the names take at the right of a map, in inches."""
+    return (NAME_DISTANCE + width_of(names_of(shown, of), size, longest) + 8) / POINTS_PER_INCH
 
 
 def _called(record: Record, node: int) -> str:
@@ -149,8 +165,9 @@ def _over_full(record: Record, states: range) -> list[int]:
 def _label_road(frame: Frame, of: Subjects, parts: Parts) -> None:
     """Kilometres, or the limits of queues, at the left; names at the right."""
     if frame.shown.quantity == QUEUE:
+        thin = min(1.2, 0.12 * frame.points()[1])
         for low, _ in frame.edges[1:]:
-            frame.axes.axhline(low, color="white", linewidth=1.2)
+            frame.axes.axhline(low, color="white", linewidth=thin)
         _label_limits(frame, of.record)
     else:
         _label_kilometres(frame, of.record)
@@ -197,16 +214,16 @@ def missing(shown: Map) -> bool:
 def _write_title(axes: Any, title: str, size: float) -> None:
     """The title above the map at the left."""
     placed = {"xycoords": "axes fraction", "textcoords": "offset points"}
-    axes.annotate(title, (0, 1), (0, 5), fontsize=size + 0.5, fontweight="bold", **placed)
+    axes.annotate(title, (0, 1), (0, 5), fontsize=size + 0.5, fontweight="bold", parse_math=False, **placed)
 
 
 def _write_scale(frame: Frame, mesh: Any, title: str) -> None:
     """The scale of colours above the map at the right, as long as the title leaves room for, within reason."""
     width, height = size_in_points(frame.axes)
-    left = width - BOLD_WIDTH * (frame.size + 0.5) * len(title)
+    left = width - text_width(title, frame.size + 0.5, True) - 14
     long = max(min(0.5 * width, 150, left), 0.3 * width)
     box = frame.axes.inset_axes([1 - long / width, 1 + 6 / height, long / width, 6 / height])
-    beyond = not frame.shown.difference and bool((frame.shown.values > frame.shown.most).any())
+    beyond = not frame.shown.difference and bool((frame.shown.values > 1.005 * frame.shown.most).any())
     bar = frame.axes.figure.colorbar(mesh, cax=box, orientation="horizontal", extend="max" if beyond else "neither")
     box.xaxis.set_ticks_position("top")
     low, high = mesh.get_clim()
@@ -218,7 +235,7 @@ def _write_scale(frame: Frame, mesh: Any, title: str) -> None:
 
 def _figure(value: float) -> str:
     """A figure of a scale, with a true minus sign."""
-    text = f"{value:,.0f}" if abs(value) >= 10 or value == round(value) else f"{value:g}"
+    text = f"{value:,.0f}" if abs(value) >= 1000 or value == round(value) else f"{value:.4g}"
     return text.replace("-", "\N{MINUS SIGN}")
 
 

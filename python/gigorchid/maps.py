@@ -72,7 +72,7 @@ def map_of(record: Record, quantity: str, window: Window | None = None, less: Re
     words = [each.states[states, :, PLACES[quantity]].T[nodes].astype(np.int64) for each in records]
     shares = quantity == QUEUE and less is None
     values = [_SCALED[quantity](each, nodes, states, own, shares) for each, own in zip(records, words)]
-    unit, proved = _unit(record, quantity, nodes, shares), quantity in (VEHICLES, FLOW) and less is None
+    unit, proved = _unit(record, quantity, shares), quantity in (VEHICLES, FLOW) and less is None
     if less is None:
         most = _most(record, quantity)
         most = max(most / 2, float(values[0].max(initial=0))) if quantity == VEHICLES else most
@@ -83,9 +83,13 @@ def map_of(record: Record, quantity: str, window: Window | None = None, less: Re
 
 
 def _most(record: Record, quantity: str) -> float:
-    """The greatest figure that a link of the corridor can have."""
+    """The greatest figure that a link of the corridor can have, to three digits, so that the capacity of a table is met again."""
+    return float(f"{_greatest(record, quantity):.3g}")
+
+
+def _greatest(record: Record, quantity: str) -> float:
     corridor, step, links = record.corridor, record.clock.step, range(1, record.corridor.links + 1)
-    long = to_length(record, list(links))
+    long = to_length(record)
     if quantity == QUEUE or (quantity == SPEED and not long):
         return 100.0
     if quantity == FLOW:
@@ -105,13 +109,13 @@ def over_limit(record: Record, nodes: list[int], states: range) -> npt.NDArray[n
     return queues > limits.reshape(-1, 1)
 
 
-def to_length(record: Record, nodes: list[int]) -> bool:
-    """Whether the lengths of all these links are known."""
-    return all(record.corridor.nodes[node].length is not None for node in nodes)
+def to_length(record: Record) -> bool:
+    """Whether the lengths of all links are known; where one is not, no map of the road is to its length."""
+    return all(node.length is not None for node in record.corridor.nodes[1:])
 
 
-def _unit(record: Record, quantity: str, nodes: list[int], shares: bool) -> str:
-    long = to_length(record, nodes)
+def _unit(record: Record, quantity: str, shares: bool) -> str:
+    long = to_length(record)
     match quantity:
         case "vehicles":
             return "veh/km" if long else "veh"
@@ -129,9 +133,9 @@ def _column(figures: list[float]) -> Values:
 
 def _vehicles(record: Record, nodes: list[int], states: slice, words: npt.NDArray[np.int64], shares: bool) -> Values:
     """Vehicles per kilometre or, where a length is missing, vehicles on each link."""
-    lengths = [record.corridor.nodes[node].length for node in nodes]
-    scales = [float(UNITS_PER_VEHICLE * (1 if None in lengths else (length or 0) / 1000)) for length in lengths]
-    return words / _column(scales)
+    long = to_length(record)
+    lengths = [(record.corridor.nodes[node].length or 0) / 1000 if long else 1 for node in nodes]
+    return words / _column([float(UNITS_PER_VEHICLE * length) for length in lengths])
 
 
 def _flow(record: Record, nodes: list[int], states: slice, words: npt.NDArray[np.int64], shares: bool) -> Values:
@@ -141,7 +145,7 @@ def _flow(record: Record, nodes: list[int], states: slice, words: npt.NDArray[np
 def _speed(record: Record, nodes: list[int], states: slice, words: npt.NDArray[np.int64], shares: bool) -> Values:
     """Flow over vehicles, sections a step, as a speed; none where there is less than a vehicle."""
     corridor, step = record.corridor, record.clock.step
-    if to_length(record, nodes):
+    if to_length(record):
         scales = [float(corridor.speed(ONE, node, step) or 0) for node in nodes]
     else:
         scales = [100 * ONE / max(corridor.word(node, layout.FULL_SPEED), 1) for node in nodes]

@@ -86,7 +86,9 @@ def few(shown: Map) -> bool:
 
 def mark(frame: Frame, record: Record, plan: Plan | None) -> None:
     """Marks the map of one record, and of the plan that it is of where it is told."""
-    if frame.shown.quantity == QUEUE:
+    if not frame.edges:
+        _write(frame, 0.5, 0.5, "no ramp here", transform=frame.axes.transAxes)
+    elif frame.shown.quantity == QUEUE:
         _mark_over(frame, record)
         _tell_unlimited(frame, record)
         if plan is not None:
@@ -98,7 +100,9 @@ def mark(frame: Frame, record: Record, plan: Plan | None) -> None:
 def mark_differences(frame: Frame) -> None:
     """Says where nothing differs, and rings what differs in few places."""
     flags = differing(frame.shown)
-    if not flags.any():
+    if not frame.edges:
+        _write(frame, 0.5, 0.5, "no ramp here", transform=frame.axes.transAxes)
+    elif not flags.any():
         _write(frame, 0.5, 0.5, "no difference", transform=frame.axes.transAxes)
     if few(frame.shown):
         places = np.argwhere(flags).tolist()
@@ -142,6 +146,8 @@ def _mark_over(frame: Frame, record: Record) -> None:
 
 def _tell_unlimited(frame: Frame, record: Record) -> None:
     """The greatest queue of each ramp that has no limit to set it against."""
+    if frame.points()[1] < frame.size:
+        return
     for row, node in enumerate(frame.shown.nodes):
         if record.corridor.word(node, layout.QUEUE_LIMIT) == NO_LIMIT:
             most = decimal(vehicles(int(frame.shown.words[row].max())), 1)
@@ -152,7 +158,7 @@ def _tell_unlimited(frame: Frame, record: Record) -> None:
 def _underline(frame: Frame, flags: Mask) -> None:
     """A line along the foot of each row where flags are set."""
     thick = LINE_POINTS / frame.points()[1]
-    lines = [(low, low + min(thick, (high - low) / 2)) for low, high in frame.edges]
+    lines = [(low, low + min(thick, 0.3 * (high - low))) for low, high in frame.edges]
     _outline(frame, _boxes(frame, flags, lines), facecolors="black", linewidths=0)
 
 

@@ -3,14 +3,13 @@
 from __future__ import annotations
 
 import io
-import textwrap
 from collections.abc import Sequence
 from typing import Any, NamedTuple
 
 from . import __version__, drawing, maps, marks, verdicts
 from .figures import MARK, NOT_PROVED
 from .maps import QUANTITIES, QUEUE, Map
-from .axis_labels import LONGEST_NAME, NAME_DISTANCE, POINTS_PER_INCH, width_of
+from .axis_labels import LONGEST_NAME, POINTS_PER_INCH, quiet, text_width, wrapped
 from .drawing import Parts, Subjects
 from .subjects import Column, Subject
 from .verdicts import Verdict
@@ -29,7 +28,9 @@ LEFT, BETWEEN = 0.62, 0.4
 EDGE, ABOVE, HEADING, BELOW = 0.25, 0.36, 0.2, 0.3
 LOWEST, HIGHEST, PER_NAME = 1.75, 5.0, 0.15
 """Inches: the margins, what a map has above and below it, and how high it is for the names at its side."""
-TITLE_SIGNS = 74
+TITLE_SIZE, WORD_SIZE, VERDICT_SIZE = 10.5, 9.0, 8.5
+FEW_STATES = 100
+"""Of fewer states than this the last one is seen, in which nothing flows."""
 IN_A_LINE = 3
 """Of the signs below the maps."""
 
@@ -73,7 +74,8 @@ def _picture(shown: Subject, quantities: Sequence[str]) -> Figure:
     rows = [[column.map(quantity) for column in columns] for quantity in quantities]
     heights = [map_height(row) for row in rows]
     titles, signs = _titles(shown), sign_names(rows, columns)
-    lines = [line for said in _said(shown) for line in textwrap.wrap(_kept_together(said), 122)]
+    width = (WIDTH - 2 * EDGE) * POINTS_PER_INCH
+    lines = [line for said in _said(shown) for line in wrapped(_kept_together(said), VERDICT_SIZE, width)]
     above = ABOVE + (HEADING if len(columns) > 1 else 0)
     head, foot = 0.2 + 0.19 * len(titles) + 0.15 * len(lines), 0.25 + 0.17 * -(-len(signs) // IN_A_LINE)
     height = head + foot + sum(each + above + BELOW for each in heights)
@@ -98,10 +100,11 @@ def _said(shown: Subject) -> list[str]:
 
 
 def _titles(shown: Subject) -> list[str]:
-    """The road and the plans, in one line where they fit."""
-    if len(shown.title) <= TITLE_SIGNS:
+    """The road and the plans, beside the verdict's word; in one line where they fit."""
+    width = (WIDTH - 2 * EDGE) * POINTS_PER_INCH - text_width(shown.verdict.word, WORD_SIZE, True) - 20
+    if text_width(shown.title, TITLE_SIZE, True) <= width:
         return [shown.title]
-    return textwrap.wrap(shown.road, TITLE_SIGNS) + textwrap.wrap(shown.plans, TITLE_SIGNS)
+    return [line for text in (shown.road, shown.plans) for line in wrapped(text, TITLE_SIZE, width, True)]
 
 
 def map_height(row: Sequence[Map]) -> float:
@@ -117,9 +120,8 @@ def _look(shown: Subject) -> Layout:
 
 def names_width(rows: Sequence[Sequence[Map]], columns: Sequence[Column], look: Layout) -> float:
     """What the names take at the right of maps, in inches."""
-    names = [drawing.names_of(shown, _of(column)) for row in rows for shown, column in zip(row, columns)]
-    widest = max(width_of(each, look.size, look.longest) for each in names)
-    return (NAME_DISTANCE + widest + 8) / POINTS_PER_INCH
+    pairs = [(shown, column) for row in rows for shown, column in zip(row, columns)]
+    return max(drawing.names_width(shown, _of(column), look.size, look.longest) for shown, column in pairs)
 
 
 def _draw_row(figure: Figure, shown: Subject, row: Sequence[Map], place: tuple[float, float], right: float) -> None:
@@ -206,12 +208,11 @@ def _write_heading(figure: Figure, titles: Sequence[str], lines: Sequence[str], 
     dark = verdict.word in verdicts.STOPPING
     colours = {"facecolor": "black" if dark else "white", "edgecolor": "black", "pad": 3.5}
     for at, title in enumerate(titles):
-        _write(figure, EDGE, height - 0.28 - 0.19 * at, title, 10.5, fontweight="bold")
-    _write(
-        figure, width - EDGE, height - 0.28, verdict.word, 9, ha="right", fontweight="bold", color="white" if dark else "black", bbox=colours
-    )  # fmt: skip
+        _write(figure, EDGE, height - 0.28 - 0.19 * at, title, TITLE_SIZE, fontweight="bold")
+    look = {"ha": "right", "fontweight": "bold", "color": "white" if dark else "black", "bbox": colours}
+    _write(figure, width - EDGE, height - 0.28, verdict.word, WORD_SIZE, **look)
     for at, line in enumerate(lines):
-        _write(figure, EDGE, height - 0.29 - 0.19 * len(titles) - 0.15 * at, line, 8.5)
+        _write(figure, EDGE, height - 0.29 - 0.19 * len(titles) - 0.15 * at, line, VERDICT_SIZE)
 
 
 def sign_names(rows: Sequence[Sequence[Map]], columns: Sequence[Column]) -> list[str]:
@@ -236,6 +237,8 @@ def _signs_on(shown: Map, column: Column) -> set[str]:
     else:
         held = marks.held(shown, plan)
         found = {"held_often" if marks.many(held) else "held": held.any(), "empty": drawing.missing(shown)}
+        states = column.window.last + 1 - column.window.first
+        found |= {"ended": len(shown.states) < states <= FEW_STATES}
     return {name for name, there in found.items() if there}
 
 
@@ -246,6 +249,7 @@ SIGNS: dict[str, dict[str, Any]] = {
     "over": {"facecolor": marks.OVER, "edgecolor": "black", "hatch": "xxxxxx", "label": "▲ queue above its limit"},
     "few": {"linestyle": "", **marks.RING, "label": "ring: a place that differs"},
     "unlimited": {"facecolor": drawing.NOTHING, "edgecolor": "0.6", "label": "no limit, so no share of it"},
+    "ended": {"facecolor": drawing.NOTHING, "edgecolor": "0.6", "label": "no step begins in the last state"},
     "empty": {"facecolor": drawing.NOTHING, "edgecolor": "0.6", "label": "less than one vehicle, so no speed"},
 }
 """How each mark looks, and what it means."""
@@ -275,6 +279,6 @@ def saved(figure: Figure, ending: str) -> bytes:
     out = io.BytesIO()
     told = f"gigorchid {__version__}"
     metadata = {"Date": None, "Creator": told} if ending == "svg" else {"Software": told}
-    with style():
+    with style(), quiet():
         figure.savefig(out, format=ending, dpi=DOTS_PER_INCH, metadata=metadata)
     return out.getvalue()

@@ -11,7 +11,7 @@ from __future__ import annotations
 
 from typing import Any
 
-from .drawing import NOTHING, Subjects, draw, scale_of
+from .drawing import NOTHING, Subjects, draw, names_width, scale_of
 from .maps import FLOW, QUEUE, SPEED, VEHICLES, map_of
 from .marks import OVER
 from .plans import Plan
@@ -78,12 +78,13 @@ def _drawn(
     """Draws a map on axes, or on those of a new figure."""
     shown = map_of(record, quantity, window, less)
     of = Subjects(record, plan, less, Window.whole(record) if window is None else window)
-    return draw(shown, of, _new_axes() if axes is None else axes, scale_of([shown]))
+    return draw(shown, of, _new_axes(names_width(shown, of)) if axes is None else axes, scale_of([shown]))
 
 
-def _new_axes() -> Any:
+def _new_axes(right: float) -> Any:
+    """The axes of a new figure, with so many inches at their right for names."""
     from matplotlib import pyplot
 
     figure, axes = pyplot.subplots(figsize=FIGURE)
-    figure.subplots_adjust(left=0.08, right=0.83, bottom=0.1, top=0.82)
+    figure.subplots_adjust(left=0.08, right=1 - right / FIGURE[0], bottom=0.1, top=0.82)
     return axes

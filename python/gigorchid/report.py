@@ -4,7 +4,7 @@ from __future__ import annotations
 
 import base64
 import hashlib
-from collections.abc import Sequence
+from collections.abc import Mapping, Sequence
 from pathlib import Path
 from typing import Any, NamedTuple
 
@@ -30,13 +30,13 @@ MOST_WRITTEN = 40
 
 
 class Part(NamedTuple):
-    """A table of the page: its first columns in words, the others in figures, and the rows that are marked."""
+    """A table of the page: its first columns in words, the others in figures, and of some rows the columns that are marked."""
 
     title: str
     columns: Sequence[str]
     rows: Sequence[Sequence[str]]
     words: int = 1
-    alert: Sequence[int] = ()
+    alert: Mapping[int, Sequence[int]] = {}
     after: str = ""
 
 
@@ -136,21 +136,37 @@ def _difference_tables(found: Comparison | None) -> list[Part]:
         return []
     if found.verdict == NOT_COMPARABLE:
         rows = differences.shared_rows(found)
-        return [Part(differences.BY_IDENTIFIER, differences.SHARED_COLUMNS, rows, 2)] if rows else []
+        return [Part(_heading(differences.BY_IDENTIFIER), differences.SHARED_COLUMNS, rows, 2)] if rows else []
     rows = differences.written_rows(found)
     more = f"and {len(rows) - MOST_WRITTEN:,} more" if len(rows) > MOST_WRITTEN else ""
-    part = Part(differences.ONLY_WRITTEN, differences.WRITTEN_COLUMNS, rows[:MOST_WRITTEN], 5, after=more)
+    part = Part(_heading(differences.ONLY_WRITTEN), differences.WRITTEN_COLUMNS, rows[:MOST_WRITTEN], 5, after=more)
     return [part] if rows else []
+
+
+def _heading(text: str) -> str:
+    """A sentence that leads to a table, as the table's heading."""
+    return text[0].upper() + text[1:].removesuffix(":")
 
 
 def _ramps(shown: Subject) -> list[Part]:
     """The table of ramps, with those marked whose queue passes its limit: one for two plans on one road."""
-    found = {key: greatest_queues(side.record) for key, side in shown.sides.items()}
-    over = {key: [at for at, most in enumerate(queues) if most.queue > most.limit] for key, queues in found.items()}
+    over = {key: _over(side) for key, side in shown.sides.items()}
     if shown.comparison is None or not shown.one_road:
-        rows = {key: queue_rows(side.record) for key, side in shown.sides.items()}
-        return [Part(_titled(shown, key), QUEUE_COLUMNS, rows[key], 1, over[key]) for key in found]
-    return [Part("", RAMP_COLUMNS, _both_queues(shown), 1, sorted({*over["A"], *over["B"]}))]
+        every = range(len(QUEUE_COLUMNS))
+        return [
+            Part(_titled(shown, key), QUEUE_COLUMNS, queue_rows(side.record), 1, {row: every for row in over[key]})
+            for key, side in shown.sides.items()
+        ]
+    marked = {
+        row: [0, 1, *((2, 3) if row in over["A"] else ()), *((4, 5) if row in over["B"] else ())]
+        for row in sorted({*over["A"], *over["B"]})
+    }
+    return [Part("", RAMP_COLUMNS, _both_queues(shown), 1, marked)]
+
+
+def _over(side: Side) -> list[int]:
+    """The rows of the table of ramps whose queue passes its limit."""
+    return [at for at, most in enumerate(greatest_queues(side.record)) if most.queue > most.limit]
 
 
 RAMP_COLUMNS = ["ramp", "limit, veh", f"A longest, veh {MARK}", f"at {MARK}", f"B longest, veh {MARK}", f"at {MARK}"]
@@ -172,7 +188,9 @@ def _window(shown: Subject) -> str:
     record, window = column.side.record, column.window
     nodes, clock = record.corridor.nodes, record.clock
     links = f"the links from {nodes[window.first_link - 1].label} to {nodes[window.last_link].label}"
-    time = f"from {clock.at(window.first)} to {clock.at(window.last)}"
+    ended = window.last == clock.steps
+    until = f"to {clock.at(window.last)}" if ended else f"until {clock.at(window.last + 1)}"
+    time = f"from {clock.at(window.first)} {until}"
     whole = all(each.window == each.window.whole(each.side.record) for each in shown.columns)
     return f"All links, {time}." if whole else f"Only {links}, {time}; the verdict and the tables are on the whole."
 

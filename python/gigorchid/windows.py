@@ -86,7 +86,8 @@ def _links(corridor: Corridor, text: str) -> tuple[int, int]:
 def _link(corridor: Corridor, text: str, whole: str) -> int:
     """The link that ends at the node of an identifier or a name."""
     wanted = text.strip()
-    found = [place for place, node in enumerate(corridor.nodes) if wanted in (str(node.identifier), node.name)]
+    found = [place for place, node in enumerate(corridor.nodes) if wanted == str(node.identifier)]
+    found = found or [place for place, node in enumerate(corridor.nodes) if wanted and wanted == node.name]
     if len(found) == 1 and found[0] > 0:
         return found[0]
     if found == [0]:

@@ -332,8 +332,13 @@ def test_a_map_of_b_less_a_has_what_the_one_has_more_than_the_other(name: str, q
     assert name == "b" or less.words.any()
 
 
+def three_digits(value: float) -> float:
+    return float(f"{value:.3g}")
+
+
 @pytest.mark.parametrize("name", ROADS)
 def test_the_colours_end_at_what_the_corridor_can_have(name: str) -> None:
+    """To three digits, so that a capacity of 8,600 that is 8,600.6 as a word is met again."""
     place = road(name)
     links, step, known = range(1, place.links + 1), place.project.clock.step, None not in place.lengths[1:]
     capacities = [float(Fraction(place.corridor_word(link, CAPACITY), 64) * 3600 / step) for link in links]
@@ -343,10 +348,10 @@ def test_the_colours_end_at_what_the_corridor_can_have(name: str) -> None:
         Fraction(place.corridor_word(link, JAM), 64) / (place.lengths[link] / 1000 if known else 1) for link in links
     ]
     found = {quantity: map_of(place.record, quantity) for quantity in QUANTITIES}
-    assert found["flow"].most == pytest.approx(max(capacities), rel=1e-12)
-    assert found["speed"].most == pytest.approx(max(speeds), rel=1e-12)
+    assert found["flow"].most == three_digits(max(capacities))
+    assert found["speed"].most == three_digits(max(speeds))
     assert found["queue"].most == 100
-    assert found["vehicles"].most == pytest.approx(max(float(max(jams)) / 2, found["vehicles"].values.max()), rel=1e-12)
+    assert found["vehicles"].most == max(three_digits(float(max(jams))) / 2, found["vehicles"].values.max())
     for quantity in QUANTITIES:
         less = map_of(place.record, quantity, less=place.other)
         assert less.most == (np.nanmax(np.abs(less.values)) if less.values.size else 0)

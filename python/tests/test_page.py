@@ -420,7 +420,9 @@ def assert_told(shown: dict[str, Any] | None, state: int, node: int, *known: Tru
             texts.append(f"+{more:,}" if more > 0 else f"{more:,}")
     assert [tuple(each) for each in shown["words"]] == expected
     assert shown["texts"] == texts
-    assert shown["names"] == [name for _, name, _ in expected]
+    assert shown["names"] == [
+        {"rate": "metering rate", "limit": "speed limit"}.get(name, name) for _, name, _ in expected
+    ]
 
 
 def assert_map_told(
@@ -838,7 +840,7 @@ def test_a_window_is_told_and_cuts_the_maps_alone(browser: Browser, pages: Pages
     browser.open("window")
     assert {each: browser.text(each) for each in whole} == whole
     said = " ".join(text for text in browser.texts("#maps > p") if text not in uncut)
-    assert all(part in said for part in ("Albany (1250)", "El Portal (1480)", "07:00:00", "08:29:50", "whole"))
+    assert all(part in said for part in ("Albany (1250)", "El Portal (1480)", "07:00:00", "until 08:30:00", "whole"))
     assert said.startswith("Only ")
     assert not any(text.startswith("Only ") for text in uncut)
 

@@ -8,7 +8,7 @@ import click
 
 from ..maps import QUANTITIES
 from .base import Outcome, Unusable, command as make_command
-from .showing import outcome, shown_arguments, shown_plans, write_shown
+from .showing import draw_to_files, outcome, shown_arguments, shown_plans, write_shown
 
 ENDINGS = (".svg", ".png")
 
@@ -44,6 +44,7 @@ def command(
     if ending not in ENDINGS:
         raise Unusable(f"{output}: a picture ends in {' or '.join(ENDINGS)}")
     shown = shown_plans(project, plan, other, start, until, links)
+    draw_to_files()
     from .. import pictures
 
     drawn = [quantity for quantity in QUANTITIES if quantity in (quantities or QUANTITIES)]

@@ -7,7 +7,7 @@ from pathlib import Path
 import click
 
 from .base import Outcome, Unusable, command as make_command
-from .showing import outcome, shown_arguments, shown_plans, write_shown
+from .showing import draw_to_files, outcome, shown_arguments, shown_plans, write_shown
 
 ENDING = ".html"
 
@@ -28,6 +28,7 @@ def command(
     if Path(output).suffix != ENDING:
         raise Unusable(f"{output}: a page ends in {ENDING}")
     shown = shown_plans(project, plan, other, start, until, links)
+    draw_to_files()
     from .. import report
 
     write_shown(shown, output, report.page(shown).encode())

@@ -2,6 +2,7 @@
 
 from __future__ import annotations
 
+import os
 from collections.abc import Callable
 from pathlib import Path
 from typing import Any
@@ -48,6 +49,11 @@ def shown_plans(
         return subject(given, beside, start, until, links)
     except WrongWindow as wrong:
         raise click.UsageError(f"--{wrong.option} {wrong}") from None
+
+
+def draw_to_files() -> None:
+    """Has matplotlib draw into files, whatever it is told to draw into otherwise; before it is loaded."""
+    os.environ["MPLBACKEND"] = "agg"
 
 
 def status_of(shown: Subject) -> int:

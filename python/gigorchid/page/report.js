@@ -6,6 +6,7 @@
   const panel = document.getElementById("words");
   const names = ["vehicles", "queue", "flow", "ramp flow"];
   const settings = ["rate", "limit"];
+  const told = { rate: "metering rate", limit: "speed limit" };
 
   const unpack = (text) => {
     const bytes = Uint8Array.from(atob(text), (sign) => sign.charCodeAt(0));
@@ -61,7 +62,7 @@
     const row = make("tr", "");
     const name = names.concat(settings)[place];
     if (place === map.place && !map.speed) row.className = "shown";
-    row.append(make("td", name));
+    row.append(make("td", told[name] ?? name));
     map.sides.forEach((key, at) => {
       row.append(make("td", words[at][place].toLocaleString("en"), { "data-side": key, "data-word": name, "data-value": words[at][place] }));
     });
@@ -118,13 +119,14 @@
   // Beside the place, on the side where there is room, so that it does not hide what it is about.
   const place = (x, y) => {
     const size = panel.getBoundingClientRect();
-    const left = x + 16 + size.width < window.innerWidth ? x + 16 : Math.max(4, x - 16 - size.width);
-    const top = y + 16 + size.height < window.innerHeight ? y + 16 : Math.max(4, y - 16 - size.height);
-    panel.style.left = `${left}px`;
-    panel.style.top = `${top}px`;
+    const fit = (at, long, room) => Math.max(4, Math.min(at + 16 + long < room ? at + 16 : at - 16 - long, room - long - 4));
+    panel.style.left = `${fit(x, size.width, window.innerWidth)}px`;
+    panel.style.top = `${fit(y, size.height, window.innerHeight)}px`;
   };
 
+  let active = null;
   const hide = () => {
+    active = null;
     panel.hidden = true;
     document.querySelectorAll(".cell").forEach((box) => { box.hidden = true; });
   };
@@ -134,6 +136,7 @@
     if (!cell) return;
     fill(map, cell);
     panel.hidden = false;
+    active = figure;
     const box = outline(figure, map, cell);
     place(x ?? box.right, y ?? box.bottom);
   };
@@ -149,7 +152,7 @@
     figure.addEventListener("pointermove", pointed);
     figure.addEventListener("pointerdown", pointed);
     figure.addEventListener("pointerleave", (event) => { if (event.pointerType === "mouse") hide(); });
-    figure.addEventListener("blur", hide);
+    figure.addEventListener("blur", () => { if (active === figure) hide(); });
     figure.addEventListener("keydown", (event) => {
       const steps = { ArrowLeft: [-1, 0], ArrowRight: [1, 0], ArrowUp: [0, 1], ArrowDown: [0, -1] }[event.key];
       if (event.key === "Escape") hide();
