@@ -24,11 +24,10 @@ from typing import Any, NamedTuple
 
 import numpy as np
 import pytest
+from browser import options, point as point_at, started
 from matplotlib.image import imread
 from projects import VALLEY, answer, changed, run
-from selenium import webdriver
 from selenium.webdriver import ActionChains, Keys
-from selenium.webdriver.chrome.service import Service
 
 import golden
 from gigorchid import Project
@@ -146,13 +145,10 @@ class Browser:
     """A browser that shows one page after the other, each in a tab."""
 
     def __init__(self, pages: Pages):
-        options = webdriver.ChromeOptions()
-        options.binary_location = "/usr/bin/chromium"
-        for flag in ("--headless=new", "--no-sandbox", "--disable-gpu"):
-            options.add_argument(flag)
-        options.set_capability("goog:loggingPrefs", {"performance": "ALL", "browser": "ALL"})
-        options.add_experimental_option("perfLoggingPrefs", {"enableNetwork": True, "enablePage": False})
-        self.driver = webdriver.Chrome(service=Service("/usr/bin/chromedriver"), options=options)
+        how = options()
+        how.set_capability("goog:loggingPrefs", {"performance": "ALL", "browser": "ALL"})
+        how.add_experimental_option("perfLoggingPrefs", {"enableNetwork": True, "enablePage": False})
+        self.driver = started(how)
         self.pages, self.shown = pages, ""
         self.tabs: dict[str, str] = {}
         self.screens: dict[str, Screen] = {}
@@ -197,7 +193,7 @@ class Browser:
 
     def move(self, x: float, y: float) -> None:
         """Moves the mouse to a place of the window."""
-        self.tell("Input.dispatchMouseEvent", type="mouseMoved", x=x, y=y)
+        point_at(self.driver, x, y)
 
     def tap(self, x: float, y: float) -> None:
         """Taps with a finger."""
@@ -249,6 +245,8 @@ return {
   words: cells.map((cell) => [cell.dataset.side, cell.dataset.word, Number(cell.dataset.value)]),
   texts: cells.map((cell) => cell.textContent),
   names: cells.map((cell) => cell.parentElement.firstChild.textContent),
+  rows: [...panel.querySelectorAll("tr")].map((row) => [...row.children].map((cell) => cell.textContent)),
+  bold: [...panel.querySelectorAll("tr.shown")].map((row) => row.firstChild.textContent),
   box: panel.getBoundingClientRect().toJSON(),
 };
 """
@@ -465,6 +463,42 @@ def test_the_words_of_the_plan_change_where_the_plan_does(browser: Browser, page
     assert len({(each["node"], words_told(each, "rate"), words_told(each, "limit")) for each in shown if each}) == 5
     for place, each in zip(places, shown, strict=True):
         assert_told(each, *place, known)
+
+
+@pytest.mark.parametrize("quantity", MAPS)
+def test_the_words_are_also_told_in_the_units_of_the_field(browser: Browser, pages: Pages, quantity: str) -> None:
+    """Vehicles, vehicles per hour and a speed; on a map of links also the speed there, which is worked out, and what the map shows is in bold."""
+    browser.open("peak")
+    known = truth(pages.folder, "demo", "peak")
+    _, frame = picture(browser, quantity)
+    grid = Grid.of(known, quantity)
+    places = [place for place in grid.sample(24) if place[0] < known.clock.steps]
+    for (state, node), shown in zip(places, browser.sweep([frame.at(*grid.place(*place)) for place in places])):
+        words = known.words(state, node)
+        expected = [rounded(words[name] / Fraction(64)) + " veh" for name in ("vehicles", "queue")]
+        expected += [rounded(words[name] * Fraction(45, 8)) + " veh/h" for name in ("flow", "ramp flow", "rate")]
+        speeds = [Fraction(words["limit"], 65_536), Fraction(words["flow"], max(words["vehicles"], 1))]
+        kmh = [speed * known.length(node) / 10 * Fraction(36, 10) for speed in speeds] if node else []
+        expected += [rounded(kmh[0]) + " km/h"] if node else [""]
+        assert shown is not None and [row[2] for row in shown["rows"][1:7]] == expected
+        last = [["speed *", rounded(kmh[1], 2), "km/h"]] if quantity != QUEUE else []
+        assert shown["rows"][7:] == last
+        bold = {VEHICLES: "vehicles", SPEED: "speed *", FLOW: "flow", QUEUE: "queue"}
+        assert shown["bold"] == [bold[quantity]]
+
+
+def test_the_speeds_of_two_plans_and_their_difference(browser: Browser, pages: Pages) -> None:
+    browser.open("two")
+    both = [truth(pages.folder, "demo", plan) for plan in ("peak", "tight")]
+    _, frame = picture(browser, SPEED, 2, 3)
+    grid = Grid.of(both[0], SPEED)
+    places = grid.sample(20)
+    for (state, node), shown in zip(places, browser.sweep([frame.at(*grid.place(*place)) for place in places])):
+        scale = Fraction(both[0].length(node) * 36, 100)
+        speeds = [Fraction(each.word(state, node, "flow"), each.word(state, node, "vehicles")) * scale for each in both]
+        more = float(shown["rows"][7][3]) if shown else None
+        assert shown and shown["rows"][7][:3] == ["speed *, km/h", *(rounded(speed, 2) for speed in speeds)]
+        assert more == pytest.approx(float(speeds[1] - speeds[0]), abs=0.0051)
 
 
 def words_told(shown: dict[str, Any], name: str) -> int:
@@ -912,10 +946,10 @@ def table(browser: Browser, section: str, number: int = 0) -> list[dict[str, str
     return [dict(zip(columns, row, strict=True)) for row in rows]
 
 
-def rounded(value: Fraction | int) -> str:
-    """A figure to one decimal, halves up."""
-    tenths = int(Fraction(value) * 10 + Fraction(1, 2))
-    return f"{tenths // 10:,}.{tenths % 10}"
+def rounded(value: Fraction | int, places: int = 1) -> str:
+    """A figure to so many decimals, halves up."""
+    whole, rest = divmod(int(Fraction(value) * 10**places + Fraction(1, 2)), 10**places)
+    return f"{whole:,}.{rest:0{places}d}"
 
 
 def short(value: Fraction) -> str:
