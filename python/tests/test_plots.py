@@ -1052,3 +1052,26 @@ def test_a_picture_of_full_size_is_no_large_file() -> None:
     shown = subject(side(place.project, any_plan(place, 9)))
     content = saved(picture(shown, ["flow"]), "svg")
     assert svg_size(content)[0] > 500 and len(content) < 3_000_000
+
+
+def test_a_window_without_a_ramp_says_so() -> None:
+    """Else a map without rows could be taken for one on which no queue stands."""
+    place = road("mph")
+    without = [link for link in range(1, place.links + 1) if not has_ramp_beside(place, link)]
+    window = Window(0, place.project.clock.steps, without[-1], without[-1])
+    for less in (None, place.other):
+        axes = drawn("queue", place.record, window=window, less=less)
+        assert [text.get_text() for text in axes.texts if text.get_text().startswith("no ")] == ["no ramp here"]
+
+
+def has_ramp_beside(place: Road, link: int) -> bool:
+    """Whether a ramp stands at an end of a link."""
+    return any(place.corridor_word(node, RAMP_CAPACITY) for node in (link - 1, link))
+
+
+def test_the_last_state_has_no_flow() -> None:
+    """It is left in the grey of what has no figure, and where it can be seen a sign says why."""
+    place = road("mph")
+    axes = drawn("flow", place.record)
+    assert to_rgba(axes.get_facecolor()) == to_rgba(plots.NOTHING)
+    assert axes.get_xlim()[1] - axes.collections[0].get_coordinates()[0, -1, 0] == float(place.project.clock.step)
