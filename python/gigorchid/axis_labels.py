@@ -9,6 +9,7 @@ from fractions import Fraction
 from functools import lru_cache
 from typing import Any, NamedTuple
 
+from matplotlib import rcParams
 from matplotlib.font_manager import FontProperties
 from matplotlib.textpath import text_to_path
 
@@ -145,7 +146,7 @@ def label_names(ax: Any, names: Sequence[Name], size: float, longest: int) -> No
             va="center",
             fontsize=size,
             fontweight="bold" if name.over else "normal",
-            color="black" if name.ramp else "0.4",
+            color=rcParams["text.color"] if name.ramp else "0.5",
             annotation_clip=False,
             parse_math=False,
             arrowprops={

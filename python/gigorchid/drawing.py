@@ -240,11 +240,10 @@ def _figure(value: float) -> str:
 
 
 def _ticks(low: float, high: float, room: float) -> list[float]:
-    """Round figures for a scale that is as long as so many signs, and both its ends; of differences these and nothing."""
-    if low < 0:
-        return [low, 0, high]
-    apart = max(len(_figure(end)) for end in (low, high)) + 1.5
-    most = max(int(room / apart), 1)
-    inner = matplotlib.ticker.MaxNLocator(min(most, 4)).tick_values(low, high)
-    gap = apart / room * (high - low)
-    return [low, *(float(each) for each in inner if low + gap <= each <= high - gap), high]
+    """Figures at even distances for a scale that is as long as so many signs, its ends among them: as many as fit, and have few digits."""
+    for parts in (4, 2):
+        found = [low + (high - low) * at / parts for at in range(parts + 1)]
+        wide = sum(len(_figure(each)) + 1.5 for each in found)
+        if all(round(each, 1) == round(each, 6) for each in found) and wide <= room + len(_figure(high)):
+            return found
+    return [low, 0.0, high] if low < 0 else [low, high]

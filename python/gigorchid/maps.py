@@ -65,6 +65,7 @@ def map_of(record: Record, quantity: str, window: Window | None = None, less: Re
     """The map of a quantity; with `less`, a record of the same road, of what this one has more than that one."""
     shown = Window.whole(record) if window is None else window
     records = (record,) if less is None else (record, less)
+    _test(quantity, shown, records)
     nodes = ramps(shown, *records) if quantity == QUEUE else list(range(shown.first_link, shown.last_link + 1))
     # What flows does so in a step, and the last state begins none.
     last = shown.last if quantity in (VEHICLES, QUEUE) else min(shown.last, record.clock.steps - 1)
@@ -80,6 +81,21 @@ def map_of(record: Record, quantity: str, window: Window | None = None, less: Re
     more = values[0] - values[1]
     greatest = float(np.nanmax(np.abs(more), initial=0)) if more.size else 0.0
     return Map(quantity, nodes, shown.first, more, words[0] - words[1], unit, greatest, proved, True)
+
+
+def _test(quantity: str, window: Window, records: tuple[Record, ...]) -> None:
+    """Faults what no map can be of."""
+    whole = Window.whole(records[0])
+    if quantity not in QUANTITIES:
+        raise ValueError(f"{quantity}: expected one of {', '.join(QUANTITIES)}")
+    if not (
+        0 <= window.first <= window.last <= whole.last and 1 <= window.first_link <= window.last_link <= whole.last_link
+    ):
+        raise ValueError(
+            f"{window} is no part of a record with states 0 to {whole.last} and links 1 to {whole.last_link}"
+        )
+    if len({(each.corridor.links, each.clock) for each in records}) > 1:
+        raise ValueError("the records have not the same links and steps: expected two of one road")
 
 
 def _most(record: Record, quantity: str) -> float:

@@ -103,7 +103,7 @@ def mark_differences(frame: Frame) -> None:
     if not frame.edges:
         _write(frame, 0.5, 0.5, "no ramp here", transform=frame.axes.transAxes)
     elif not flags.any():
-        _write(frame, 0.5, 0.5, "no difference", transform=frame.axes.transAxes)
+        _write(frame, 0.5, 0.5, "no difference here", transform=frame.axes.transAxes)
     if few(frame.shown):
         places = np.argwhere(flags).tolist()
         times = [(frame.time(column) + frame.time(column + 1)) / 2 for _, column in places]
@@ -184,6 +184,6 @@ def _tell_limit(frame: Frame, plan: Plan, row: int, run: tuple[int, int]) -> Non
     text = ends[0] if ends[0] == ends[1] else f"{ends[0].split()[0]} to {ends[1]}"
     left, right = (frame.time(column) for column in run)
     across, up = frame.points()
-    if (right - left) * across > SIGN_WIDTH * frame.size * (len(text) + 3) and (high - low) * up > frame.size:
+    if (right - left) * across > SIGN_WIDTH * frame.size * (len(text) + 3) and (high - low) * up > frame.size - 1:
         box = {"facecolor": "white", "edgecolor": "none", "pad": 1}
         _write(frame, (left + right) / 2, (low + high) / 2, text, bbox=box)

@@ -6,13 +6,12 @@ import io
 from collections.abc import Sequence
 from typing import Any, NamedTuple
 
-from . import __version__, drawing, maps, marks, verdicts
+from . import __version__, drawing, maps, marks
 from .figures import MARK, NOT_PROVED
 from .maps import QUANTITIES, QUEUE, Map
 from .axis_labels import LONGEST_NAME, POINTS_PER_INCH, quiet, text_width, wrapped
 from .drawing import Parts, Subjects
 from .subjects import Column, Subject
-from .verdicts import Verdict
 
 import matplotlib
 from matplotlib.figure import Figure
@@ -26,10 +25,10 @@ WIDTH = 8.27
 """Of an A4 page, so that a picture prints with its text in the size that it has."""
 LEFT, BETWEEN = 0.62, 0.4
 EDGE, ABOVE, HEADING, BELOW = 0.25, 0.36, 0.2, 0.3
-LOWEST, HIGHEST, PER_NAME = 1.75, 5.0, 0.15
+LOWEST, HIGHEST, PER_NAME = 1.75, 9.5, 0.145
 """Inches: the margins, what a map has above and below it, and how high it is for the names at its side."""
 TITLE_SIZE, WORD_SIZE, VERDICT_SIZE = 10.5, 9.0, 8.5
-FEW_STATES = 100
+FEW_STATES = 500
 """Of fewer states than this the last one is seen, in which nothing flows."""
 IN_A_LINE = 3
 """Of the signs below the maps."""
@@ -81,7 +80,7 @@ def _picture(shown: Subject, quantities: Sequence[str]) -> Figure:
     height = head + foot + sum(each + above + BELOW for each in heights)
     figure = Figure(figsize=(WIDTH, height))
     right = names_width(rows, columns, _look(shown))
-    _write_heading(figure, titles, lines, shown.verdict)
+    _write_heading(figure, titles, lines, shown)
     bottom = height - head
     for row, tall in zip(rows, heights):
         bottom -= above + tall
@@ -94,14 +93,14 @@ def _picture(shown: Subject, quantities: Sequence[str]) -> Figure:
 
 
 def _said(shown: Subject) -> list[str]:
-    """The verdict and, of two plans, which of them is not valid and why."""
-    wrong = [f"{key} is {verdicts.of_plan(side)}" for key, side in shown.sides.items() if side.refusal is not None]
-    return [str(shown.verdict), *(wrong if shown.comparison is not None else [])]
+    """The verdict, what belongs to it, and which part is shown."""
+    cut = shown.cut()
+    return [str(shown.verdict), *shown.beside(), *([f"shown: only {cut}; the verdict is on the whole"] if cut else [])]
 
 
 def _titles(shown: Subject) -> list[str]:
     """The road and the plans, beside the verdict's word; in one line where they fit."""
-    width = (WIDTH - 2 * EDGE) * POINTS_PER_INCH - text_width(shown.verdict.word, WORD_SIZE, True) - 20
+    width = (WIDTH - 2 * EDGE) * POINTS_PER_INCH - text_width(shown.badge, WORD_SIZE, True) - 20
     if text_width(shown.title, TITLE_SIZE, True) <= width:
         return [shown.title]
     return [line for text in (shown.road, shown.plans) for line in wrapped(text, TITLE_SIZE, width, True)]
@@ -202,15 +201,15 @@ def _write(figure: Figure, left: float, bottom: float, text: str, size: float, *
     figure.text(left / width, bottom / height, text, fontsize=size, va="baseline", **settings)
 
 
-def _write_heading(figure: Figure, titles: Sequence[str], lines: Sequence[str], verdict: Verdict) -> None:
+def _write_heading(figure: Figure, titles: Sequence[str], lines: Sequence[str], shown: Subject) -> None:
     """The title, the verdict's word in a box, dark where it is one to stop at, and all of the verdict."""
     width, height = figure.get_size_inches()
-    dark = verdict.word in verdicts.STOPPING
+    dark = shown.stopping
     colours = {"facecolor": "black" if dark else "white", "edgecolor": "black", "pad": 3.5}
     for at, title in enumerate(titles):
         _write(figure, EDGE, height - 0.28 - 0.19 * at, title, TITLE_SIZE, fontweight="bold")
     look = {"ha": "right", "fontweight": "bold", "color": "white" if dark else "black", "bbox": colours}
-    _write(figure, width - EDGE, height - 0.28, verdict.word, WORD_SIZE, **look)
+    _write(figure, width - EDGE, height - 0.28, shown.badge, WORD_SIZE, **look)
     for at, line in enumerate(lines):
         _write(figure, EDGE, height - 0.29 - 0.19 * len(titles) - 0.15 * at, line, VERDICT_SIZE)
 

@@ -76,6 +76,8 @@ def _drawn(
     quantity: str, record: Record, plan: Plan | None, less: Record | None, window: Window | None, axes: Any
 ) -> Any:
     """Draws a map on axes, or on those of a new figure."""
+    if plan is not None and (plan.corridor.links, plan.clock) != (record.corridor.links, record.clock):
+        raise ValueError("the plan has not the links and steps of the record: expected the plan that the record is of")
     shown = map_of(record, quantity, window, less)
     of = Subjects(record, plan, less, Window.whole(record) if window is None else window)
     return draw(shown, of, _new_axes(names_width(shown, of)) if axes is None else axes, scale_of([shown]))

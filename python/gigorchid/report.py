@@ -10,11 +10,12 @@ from typing import Any, NamedTuple
 
 import jinja2
 
-from . import __version__, calls, differences, drawing, library, maps, pictures, verdicts
+from . import __version__, calls, differences, drawing, layout, library, maps, pictures
 from .compare import NOT_COMPARABLE, SAME, Comparison, Side
+from .corridor import NO_LIMIT
 from .figures import MARK, NOT_PROVED, greatest_queues
 from .layout import Words
-from .maps import QUANTITIES, QUEUE, SPEED, Map
+from .maps import QUANTITIES, QUEUE, Map
 from .pictures import NARROW, WIDE, Layout
 from .plans import Plan
 from .records import NARROW as RECORD_WORDS
@@ -65,7 +66,8 @@ def page(shown: Subject) -> str:
         title=shown.title,
         many=shown.comparison is not None,
         verdict=shown.verdict,
-        stopping=shown.verdict.word in verdicts.STOPPING,
+        stopping=shown.stopping,
+        badge=shown.badge,
         beneath=_beneath(shown),
         facts=_facts(shown),
         differences=_differences(shown.comparison),
@@ -95,15 +97,20 @@ def _titled(shown: Subject, key: str) -> str:
     return "" if shown.comparison is None else f"{key}, {shown.names[key]}"
 
 
-def _beneath(shown: Subject) -> list[str]:
-    """What belongs to the verdict: of each plan whether it is valid, all ramps that pass their limits, and rows that say nothing."""
-    lines = []
+def _beneath(shown: Subject) -> list[tuple[bool, str]]:
+    """What belongs to the verdict, each with whether it must not be passed over."""
+    lines = [(side.refusal is not None, line) for side, line in zip(_wrong(shown), shown.beside())]
+    lines += [(False, line) for line in shown.beside()[len(lines) :]]
     for key, side in shown.sides.items():
-        if shown.comparison is not None:
-            lines.append(f"{key}: {differences.named(side, shown.names[key])}")
-        lines += [f"{line} {MARK}" for line in (side.refusal.rest if side.refusal else [])]
-        lines += [f"warning: {each}" for each in side.plan.outside()]
+        if shown.comparison is not None and side.refusal is None:
+            lines.append((False, f"{key}: {differences.named(side, shown.names[key])}"))
+        lines += [(False, f"{line} {MARK}") for line in (side.refusal.rest if side.refusal else [])]
+        lines += [(False, f"warning: {each}") for each in side.plan.outside()]
     return lines
+
+
+def _wrong(shown: Subject) -> list[Side]:
+    return [side for side in shown.sides.values() if side.refusal is not None]
 
 
 def _facts(shown: Subject) -> list[tuple[str, str]]:
@@ -184,15 +191,9 @@ def _both_queues(shown: Subject) -> list[list[str]]:
 
 def _window(shown: Subject) -> str:
     """What part of the record the maps show."""
-    column = shown.columns[0]
-    record, window = column.side.record, column.window
-    nodes, clock = record.corridor.nodes, record.clock
-    links = f"the links from {nodes[window.first_link - 1].label} to {nodes[window.last_link].label}"
-    ended = window.last == clock.steps
-    until = f"to {clock.at(window.last)}" if ended else f"until {clock.at(window.last + 1)}"
-    time = f"from {clock.at(window.first)} {until}"
-    whole = all(each.window == each.window.whole(each.side.record) for each in shown.columns)
-    return f"All links, {time}." if whole else f"Only {links}, {time}; the verdict and the tables are on the whole."
+    cut, clock = shown.cut(), shown.columns[0].side.record.clock
+    whole = f"All links, from {clock.at(0)} to {clock.at(clock.steps)}."
+    return f"Only {cut}; the verdict and the tables are on the whole." if cut else whole
 
 
 def _signs(shown: Subject) -> list[dict[str, str]]:
@@ -233,7 +234,7 @@ def _signed(shown: Subject) -> str:
     many = "plans" if len(shown.sides) > 1 else "plan"
     seen = " A signature says that this was seen, not that a plan may run that is not valid."
     invalid = any(side.refusal is not None for side in shown.sides.values())
-    return f"For the {many} {plans}, word for word as the SHA-256 below tells, with the verdict above.{seen if invalid else ''}"
+    return f"For the {many} {plans}, word for word as the SHA-256 below tells.{seen if invalid else ''}"
 
 
 def _hashes(shown: Subject) -> list[tuple[str, str]]:
@@ -265,6 +266,10 @@ def _side_data(side: Side) -> dict[str, object]:
     sections = [corridor.speed(ONE, node, clock.step) if node else None for node in range(len(corridor.nodes))]
     return {
         "perHour": float(1 / factor("vph", clock.step)),
+        "capacities": _corridor_words(side, layout.RAMP_CAPACITY),
+        "full": _corridor_words(side, layout.FULL_SPEED),
+        "limits": [None if word == NO_LIMIT else word for word in _corridor_words(side, layout.QUEUE_LIMIT)],
+        "kilometres": [None if node.length is None else float(node.length / 1000) for node in corridor.nodes],
         "sections": [None if speed is None else float(speed) for speed in sections],
         "speeds": SYMBOLS[corridor.speeds],
         "times": [clock.at(state) for state in range(clock.steps + 1)],
@@ -272,6 +277,12 @@ def _side_data(side: Side) -> dict[str, object]:
         "record": _as_text(record.reshape(-1)),
         "plan": _as_text(side.plan.words),
     }
+
+
+def _corridor_words(side: Side, place: int) -> list[int]:
+    """A word of each node."""
+    corridor = side.project.corridor
+    return [corridor.word(node, place) for node in range(len(corridor.nodes))]
 
 
 def _maps(shown: Subject) -> tuple[list[Row], dict[str, object]]:
@@ -314,7 +325,7 @@ def _map_data(column: Column, shown: Map) -> dict[str, object]:
         "sides": [column.key] if column.less is None else ["A", "B"],
         "place": maps.PLACES[shown.quantity],
         "ramps": shown.quantity == QUEUE,
-        "speed": shown.quantity == SPEED,
+        "quantity": shown.quantity,
         "first": shown.first,
         "columns": column.window.last + 1 - column.window.first,
         "filled": len(shown.states),

@@ -5,7 +5,8 @@ from __future__ import annotations
 from typing import NamedTuple
 
 from . import verdicts
-from .compare import NOT_COMPARABLE, Comparison, Side, compare
+from .compare import NOT_COMPARABLE, SAME, Comparison, Side, compare
+from .figures import MARK
 from .maps import Map, map_of
 from .verdicts import Verdict
 from .windows import Window
@@ -49,6 +50,43 @@ class Subject(NamedTuple):
     def sides(self) -> dict[str, Side]:
         """The plans by their letters; a plan alone is A."""
         return {column.key: column.side for column in self.columns if column.less is None}
+
+    @property
+    def badge(self) -> str:
+        """The verdict's word and, of two plans, which of them are not valid."""
+        wrong = [key for key, side in self.sides.items() if side.refusal is not None]
+        if self.comparison is None or not wrong:
+            return self.verdict.word
+        return f"{self.verdict.word}, {' and '.join(wrong)} {verdicts.NOT_VALID}"
+
+    @property
+    def stopping(self) -> bool:
+        """Whether somebody who signs must not pass over it."""
+        return self.verdict.word in verdicts.STOPPING or self.badge != self.verdict.word
+
+    def beside(self) -> list[str]:
+        """What belongs to the verdict on two plans: which is not valid and why, and whether one is only written differently."""
+        found = self.comparison
+        if found is None:
+            return []
+        wrong = {key: side for key, side in self.sides.items() if side.refusal is not None}
+        lines = [f"{key}, {self.names[key]}, is {verdicts.of_plan(side)}" for key, side in wrong.items()]
+        nodes = len({run.node for run in found.only_written})
+        if found.verdict == SAME and nodes:
+            lines.append(f"only written differently, at {nodes} {'nodes' if nodes > 1 else 'node'} {MARK}")
+        return lines
+
+    def cut(self) -> str:
+        """Which part of the record the maps show, where it is not all of it."""
+        column = self.columns[0]
+        window, clock, nodes = column.window, column.side.record.clock, column.side.record.corridor.nodes
+        whole, parts = window.whole(column.side.record), []
+        if (window.first_link, window.last_link) != (whole.first_link, whole.last_link):
+            parts.append(f"the links from {nodes[window.first_link - 1].label} to {nodes[window.last_link].label}")
+        if (window.first, window.last) != (whole.first, whole.last):
+            last = f"to {clock.at(clock.steps)}" if window.last == clock.steps else f"until {clock.at(window.last + 1)}"
+            parts.append(f"from {clock.at(window.first)} {last}")
+        return ", ".join(parts)
 
     @property
     def names(self) -> dict[str, str]:

@@ -82,6 +82,15 @@ VEHICLES, SPEED, FLOW, QUEUE = MAPS = ("Vehicles", "Speed", "Flow", "Queues")
 """The maps in the order of the page, by the first word of each."""
 WORDS = {"vehicles": "vehicles_units", "queue": "queue_units", "flow": "flow_units", "ramp flow": "ramp_flow_units"}
 """What the page calls the words of a record, and their columns."""
+CALLED = {
+    "vehicles": "vehicles on the link",
+    "queue": "queue at the ramp",
+    "flow": "flow of the link",
+    "ramp flow": "flow of the ramp",
+    "rate": "metering rate",
+    "limit": "speed limit",
+}
+"""What people read beside each word."""
 NO_LIMIT = 134_217_728
 CORNERS = 4
 
@@ -418,9 +427,7 @@ def assert_told(shown: dict[str, Any] | None, state: int, node: int, *known: Tru
             texts.append(f"+{more:,}" if more > 0 else f"{more:,}")
     assert [tuple(each) for each in shown["words"]] == expected
     assert shown["texts"] == texts
-    assert shown["names"] == [
-        {"rate": "metering rate", "limit": "speed limit"}.get(name, name) for _, name, _ in expected
-    ]
+    assert shown["names"] == [CALLED[name] for _, name, _ in expected]
 
 
 def assert_map_told(
@@ -465,26 +472,47 @@ def test_the_words_of_the_plan_change_where_the_plan_does(browser: Browser, page
         assert_told(each, *place, known)
 
 
+def in_units(known: Truth, state: int, node: int) -> list[str]:
+    """The words at a place, before the last state, as vehicles, vehicles per hour and a speed."""
+    words = known.words(state, node)
+    told = [rounded(Fraction(words[name], 64)) + " veh" for name in ("vehicles", "queue")]
+    told += [rounded(words[name] * Fraction(45, 8)) + " veh/h" for name in ("flow", "ramp flow", "rate")]
+    told[-1] += ", not metered" if words["rate"] == known.plan.corridor.word(node, 5) else ""
+    speed = Fraction(words["limit"] * known.length(node) * 36, 65_536 * 100) if node else None
+    full = ", full speed" if words["limit"] == known.plan.corridor.word(node, 2) else ""
+    return told + ["" if speed is None else f"{rounded(speed)} km/h{full}"]
+
+
+def own_figure(known: Truth, quantity: str, state: int, node: int) -> list[list[str]]:
+    """What a map shows at a place, where that is no word in another unit."""
+    words = known.words(state, node)
+    if quantity == VEHICLES:
+        return [
+            ["vehicles per km", "", rounded(Fraction(words["vehicles"] * 1000, 64 * known.length(node)), 2) + " veh/km"]
+        ]
+    if quantity == SPEED:
+        speed = Fraction(words["flow"] * known.length(node) * 36, words["vehicles"] * 100)
+        return [["speed *", "", rounded(speed, 2) + " km/h"]]
+    if quantity == FLOW or known.limit(node) == NO_LIMIT:
+        return []
+    limit = known.limit(node)
+    share = rounded(Fraction(100 * words["queue"], limit), 2)
+    return [["share of its limit *", "", f"{share} % of {rounded(Fraction(limit, 64))} veh"]]
+
+
 @pytest.mark.parametrize("quantity", MAPS)
 def test_the_words_are_also_told_in_the_units_of_the_field(browser: Browser, pages: Pages, quantity: str) -> None:
-    """Vehicles, vehicles per hour and a speed; on a map of links also the speed there, which is worked out, and what the map shows is in bold."""
+    """Below them stands what the map shows there, and the word that it comes from is in bold."""
     browser.open("peak")
     known = truth(pages.folder, "demo", "peak")
     _, frame = picture(browser, quantity)
     grid = Grid.of(known, quantity)
-    places = [place for place in grid.sample(24) if place[0] < known.clock.steps]
-    for (state, node), shown in zip(places, browser.sweep([frame.at(*grid.place(*place)) for place in places])):
-        words = known.words(state, node)
-        expected = [rounded(words[name] / Fraction(64)) + " veh" for name in ("vehicles", "queue")]
-        expected += [rounded(words[name] * Fraction(45, 8)) + " veh/h" for name in ("flow", "ramp flow", "rate")]
-        speeds = [Fraction(words["limit"], 65_536), Fraction(words["flow"], max(words["vehicles"], 1))]
-        kmh = [speed * known.length(node) / 10 * Fraction(36, 10) for speed in speeds] if node else []
-        expected += [rounded(kmh[0]) + " km/h"] if node else [""]
-        assert shown is not None and [row[2] for row in shown["rows"][1:7]] == expected
-        last = [["speed *", rounded(kmh[1], 2), "km/h"]] if quantity != QUEUE else []
-        assert shown["rows"][7:] == last
-        bold = {VEHICLES: "vehicles", SPEED: "speed *", FLOW: "flow", QUEUE: "queue"}
-        assert shown["bold"] == [bold[quantity]]
+    places = [place for place in grid.sample(24) if place[0] < known.clock.steps] + [(500, grid.nodes[-4])]
+    bold = {VEHICLES: "vehicles", SPEED: "flow", FLOW: "flow", QUEUE: "queue"}[quantity]
+    for place, shown in zip(places, browser.sweep([frame.at(*grid.place(*place)) for place in places])):
+        assert shown is not None and [row[2] for row in shown["rows"][1:7]] == in_units(known, *place)
+        assert shown["rows"][7:] == own_figure(known, quantity, *place)
+        assert shown["bold"] == [CALLED[bold]]
 
 
 def test_the_speeds_of_two_plans_and_their_difference(browser: Browser, pages: Pages) -> None:
@@ -908,7 +936,7 @@ def test_the_verdict_is_on_top(browser: Browser, name: str, screen: Screen) -> N
 
 
 @pytest.mark.parametrize(
-    ("name", "stopping"), [("peak", False), ("tight", True), ("two", False), ("apart", True), ("same", False)]
+    ("name", "stopping"), [("peak", False), ("tight", True), ("two", True), ("apart", True), ("same", False)]
 )
 def test_a_verdict_to_stop_at_is_dark(browser: Browser, name: str, stopping: bool) -> None:
     """White on black, also on paper, where browsers leave out what is behind text."""
@@ -926,7 +954,9 @@ def test_what_is_not_valid_of_two_plans_is_told_beneath_the_verdict(browser: Bro
     browser.open("two")
     told = answer(pages.folder, *SAYING["tight"])["refusal"]
     lines = browser.texts("header p.beneath")
-    assert [line for line in lines if told["told"] in line and line.startswith("B: ")]
+    assert [line for line in lines if told["told"] in line and line.startswith("B, tight, is NOT VALID: ")]
+    assert browser.texts("header p.beneath.stop") == lines[:1]
+    assert browser.text("#signature strong") == "DIFFERENT, B NOT VALID"
     assert [line for line in lines if line.startswith("A: ") and line.endswith("; valid")]
     assert [line for line in lines if told["rest"][0] in line]
 

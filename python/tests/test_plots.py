@@ -460,7 +460,7 @@ def test_it_is_said_where_nothing_differs() -> None:
     more = with_a_unit_more(place, (2, 3, 0))
     for quantity, record, said in (("flow", more, True), ("vehicles", more, False), ("vehicles", place.record, True)):
         texts = [text.get_text() for text in drawn(quantity, record, less=place.record).texts]
-        assert ("no difference" in texts) is said
+        assert ("no difference here" in texts) is said
 
 
 def test_without_a_plan_nothing_is_said_of_it() -> None:

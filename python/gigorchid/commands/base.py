@@ -157,6 +157,8 @@ _json_option = click.Option(["--json", "as_json"], is_flag=True, help="Print one
 def load_project(path: str) -> Project:
     """The project of a folder, or of its project.toml, that is named on the command line."""
     file = Path(path) / "project.toml" if Path(path).is_dir() else Path(path)
+    if file.is_file() and file.suffix != ".toml":
+        raise Unusable(f"{path}: expected a project, a folder with a project.toml")
     if not file.is_file():
         raise Unusable(f"there is no {file}; `gigorchid new DIR` makes a project")
     return Project.load(path)

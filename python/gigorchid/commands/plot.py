@@ -37,10 +37,9 @@ def command(
     against its limit.
 
     With OTHER, a plan of the same project, PROJECT:PLAN or the file of a plan in a project's folder, the maps show A, B and B less A, where A
-    is PLAN and B is OTHER, and the verdict is that of `gigorchid compare`. The exit status is that of `simulate` or of `compare`; the picture
-    is written whatever the verdict is.
+    is PLAN and B is OTHER, and the verdict is that of `gigorchid compare`. The exit status is that of `simulate` or of `compare`; the picture is written whatever the verdict is, unless the library refuses the plan itself.
     """
-    ending = Path(output).suffix
+    ending = Path(output).suffix.lower()
     if ending not in ENDINGS:
         raise Unusable(f"{output}: a picture ends in {' or '.join(ENDINGS)}")
     shown = shown_plans(project, plan, other, start, until, links)

@@ -23,9 +23,9 @@ def command(
 
     With OTHER, a plan of the same project, PROJECT:PLAN or the file of a plan in a project's folder, the page shows A, B and B less A, where A
     is PLAN and B is OTHER, and the verdict is that of `gigorchid compare`. A window cuts the maps alone. The exit status is that of `simulate`
-    or of `compare`; the page is written whatever the verdict is.
+    or of `compare`; the page is written whatever the verdict is, unless the library refuses the plan itself.
     """
-    if Path(output).suffix != ENDING:
+    if Path(output).suffix.lower() != ENDING:
         raise Unusable(f"{output}: a page ends in {ENDING}")
     shown = shown_plans(project, plan, other, start, until, links)
     draw_to_files()

@@ -1,12 +1,15 @@
 "use strict";
-// Shows the words of the record under the pointer, as the page carries them, and beside them the same in the field's units. The speed, which
-// is flow over vehicles, and B less A are worked out here.
+// Shows the words of the record under the pointer, as the page carries them, and beside them the same in the field's units. What the map shows
+// there, such as the speed, which is flow over vehicles, and B less A are worked out here.
 (() => {
   const data = JSON.parse(document.getElementById("data").textContent);
   const panel = document.getElementById("words");
   const names = ["vehicles", "queue", "flow", "ramp flow"];
   const settings = ["rate", "limit"];
-  const told = { rate: "metering rate", limit: "speed limit" };
+  const told = {
+    vehicles: "vehicles on the link", queue: "queue at the ramp", flow: "flow of the link", "ramp flow": "flow of the ramp",
+    rate: "metering rate", limit: "speed limit",
+  };
 
   const unpack = (text) => {
     const bytes = Uint8Array.from(atob(text), (sign) => sign.charCodeAt(0));
@@ -45,23 +48,44 @@
     return element;
   };
 
-  const speedOf = (side, node, words) => {
-    const [vehicles, , flow] = words;
-    return side.sections[node] === null || vehicles < 64 ? null : (flow / vehicles) * side.sections[node];
+  const decimals = (figure, count = 1) => figure.toLocaleString("en", { minimumFractionDigits: count, maximumFractionDigits: count });
+
+  // A word in the field's unit: vehicles, vehicles per hour, or a speed; and whether a setting is the most that there is.
+  const inUnits = (side, node, place, word) => {
+    if (place < 2) return `${decimals(word / 64)} veh`;
+    if (place < 4) return `${decimals(word * side.perHour)} veh/h`;
+    if (place === 4) return `${decimals(word * side.perHour)} veh/h${word === side.capacities[node] ? ", not metered" : ""}`;
+    if (side.sections[node] === null) return "";
+    return `${decimals((word / 65536) * side.sections[node])} ${side.speeds}${word === side.full[node] ? ", full speed" : ""}`;
   };
 
-  // A word in the field's unit: vehicles, vehicles per hour, or a speed.
-  const inUnits = (side, node, place, word) => {
-    const told = (figure, unit) => `${figure.toLocaleString("en", { minimumFractionDigits: 1, maximumFractionDigits: 1 })} ${unit}`;
-    if (place < 2) return told(word / 64, "veh");
-    if (place < 5) return told(word * side.perHour, "veh/h");
-    return side.sections[node] === null ? "" : told((word / 65536) * side.sections[node], side.speeds);
+  // What a map shows at a place, worked out of its words: vehicles per kilometre, a speed, or a share of a limit; nothing where there is none.
+  const figures = {
+    vehicles: { name: "vehicles per km", unit: () => "veh/km", of: (side, node, words) => (side.kilometres[node] ? words[0] / 64 / side.kilometres[node] : null) },
+    speed: { name: "speed *", unit: (side) => side.speeds, of: (side, node, words) => (side.sections[node] === null || words[0] < 64 ? null : (words[2] / words[0]) * side.sections[node]) },
+    queue: { name: "share of its limit *", unit: (side, node) => `% of ${decimals(side.limits[node] / 64)} veh`, of: (side, node, words) => (side.limits[node] ? (100 * words[1]) / side.limits[node] : null) },
+  };
+
+  // The same for each record, and how much more it is in B.
+  const ownRow = (map, node, words) => {
+    const own = figures[map.quantity];
+    const side = sides[map.sides[0]];
+    if (!own || (map.quantity === "speed" && words[0].length === names.length)) return [];
+    const found = map.sides.map((key, at) => own.of(sides[key], node, words[at]));
+    if (found.includes(null)) return [];
+    const row = make("tr", "", { class: "own" });
+    const unit = own.unit(side, node);
+    const cells = found.length === 2
+      ? [`${own.name}, ${unit}`, ...found.map((figure) => decimals(figure, 2)), decimals(found[1] - found[0], 2)]
+      : [own.name, "", `${decimals(found[0], 2)} ${unit}`];
+    row.append(...cells.map((text) => make("td", text)));
+    return [row];
   };
 
   const rowOf = (map, node, place, words) => {
     const row = make("tr", "");
     const name = names.concat(settings)[place];
-    if (place === map.place && !map.speed) row.className = "shown";
+    if (place === map.place) row.className = "shown";
     row.append(make("td", told[name] ?? name));
     map.sides.forEach((key, at) => {
       row.append(make("td", words[at][place].toLocaleString("en"), { "data-side": key, "data-word": name, "data-value": words[at][place] }));
@@ -75,21 +99,6 @@
     return row;
   };
 
-  // The speed of a link in each record, and how much more it is in B; a row only where a link's length is known.
-  const speedRow = (map, node, words) => {
-    const speeds = map.sides.map((key, at) => speedOf(sides[key], node, words[at]));
-    const side = sides[map.sides[0]];
-    if (map.ramps || side.sections[node] === null || words[0].length === names.length) return [];
-    const row = make("tr", "");
-    if (map.speed) row.className = "shown";
-    const told = speeds.map((speed) => (speed === null ? "none" : speed.toFixed(2)));
-    const more = speeds.length === 2 && !speeds.includes(null) ? (speeds[1] - speeds[0]).toFixed(2) : "";
-    const unit = told[0] === "none" ? "less than 1 veh" : side.speeds;
-    const cells = speeds.length === 2 ? [...told, more] : [told[0], unit];
-    row.append(make("td", speeds.length === 2 ? `speed *, ${side.speeds}` : "speed *"), ...cells.map((text) => make("td", text)));
-    return [row];
-  };
-
   const fill = (map, cell) => {
     const side = sides[map.sides[0]];
     const state = map.first + cell.column;
@@ -100,7 +109,7 @@
     const heads = map.sides.length === 2 ? ["units", "A", "B", "B less A"] : ["", "units", ""];
     const head = make("tr", "");
     head.append(...heads.map((text) => make("th", text)));
-    table.append(head, ...words[0].map((_, place) => rowOf(map, node, place, words)), ...speedRow(map, node, words));
+    table.append(head, ...words[0].map((_, place) => rowOf(map, node, place, words)), ...ownRow(map, node, words));
     panel.replaceChildren(make("strong", told, { "data-state": state, "data-node": node }), table);
   };
 
