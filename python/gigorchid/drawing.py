@@ -62,7 +62,7 @@ class Parts(NamedTuple):
     """The most signs of a name."""
 
 
-class Subjects(NamedTuple):
+class Origin(NamedTuple):
     """What a map is of: a record, its plan where its marks are drawn, the record that was taken off, and the window."""
 
     record: Record
@@ -86,7 +86,7 @@ def scale_of(maps: Iterable[Map]) -> Scale:
     return Scale(-rounded_up(most), rounded_up(most)) if shown[0].difference else Scale(0, most or 1.0)
 
 
-def draw(shown: Map, of: Subjects, axes: Any, scale: Scale, parts: Parts = Parts(), size: float = TEXT_SIZE) -> Any:
+def draw(shown: Map, of: Origin, axes: Any, scale: Scale, parts: Parts = Parts(), size: float = TEXT_SIZE) -> Any:
     """Draws a map on axes, and returns them."""
     frame = Frame(axes, shown, edges_of(shown, of.record), of.record.clock, size)
     mesh = _mesh(frame, scale)
@@ -131,7 +131,7 @@ def _mesh(frame: Frame, scale: Scale) -> Any:
     return frame.axes.pcolormesh(times, rows, values, cmap=colours, vmin=scale.low, vmax=scale.high, rasterized=True)
 
 
-def names_of(shown: Map, of: Subjects) -> list[Name]:
+def names_of(shown: Map, of: Origin) -> list[Name]:
     """The names beside a map: of its ramps, or of all nodes at the ends of its links."""
     record, edges = of.record, edges_of(shown, of.record)
     states = range(of.window.first, of.window.last + 1)
@@ -144,7 +144,7 @@ def names_of(shown: Map, of: Subjects) -> list[Name]:
     return [Name(at, _called(record, node), ramp, node in over) for at, node, ramp in zip(places, nodes, known)]
 
 
-def names_width(shown: Map, of: Subjects, size: float = TEXT_SIZE, longest: int = LONGEST_NAME) -> float:
+def names_width(shown: Map, of: Origin, size: float = TEXT_SIZE, longest: int = LONGEST_NAME) -> float:
     """What the names take at the right of a map, in inches."""
     return (NAME_DISTANCE + width_of(names_of(shown, of), size, longest) + 8) / POINTS_PER_INCH
 
@@ -162,7 +162,7 @@ def _over_full(record: Record, states: range) -> list[int]:
     return [node for node in nodes if found[node]]
 
 
-def _label_road(frame: Frame, of: Subjects, parts: Parts) -> None:
+def _label_road(frame: Frame, of: Origin, parts: Parts) -> None:
     """Kilometres, or the limits of queues, at the left; names at the right."""
     if frame.shown.quantity == QUEUE:
         thin = min(1.2, 0.12 * frame.points()[1])

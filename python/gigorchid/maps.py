@@ -2,6 +2,7 @@
 
 from __future__ import annotations
 
+from fractions import Fraction
 from typing import NamedTuple
 
 import numpy as np
@@ -72,7 +73,7 @@ def map_of(record: Record, quantity: str, window: Window | None = None, less: Re
     states = slice(shown.first, last + 1)
     words = [each.states[states, :, PLACES[quantity]].T[nodes].astype(np.int64) for each in records]
     shares = quantity == QUEUE and less is None
-    values = [_SCALED[quantity](each, nodes, states, own, shares) for each, own in zip(records, words)]
+    values = [_figures(each, quantity, nodes, states, own, shares) for each, own in zip(records, words)]
     unit, proved = _unit(record, quantity, shares), quantity in (VEHICLES, FLOW) and less is None
     if less is None:
         most = _most(record, quantity)
@@ -104,6 +105,7 @@ def _most(record: Record, quantity: str) -> float:
 
 
 def _greatest(record: Record, quantity: str) -> float:
+    """The same with all digits."""
     corridor, step, links = record.corridor, record.clock.step, range(1, record.corridor.links + 1)
     long = to_length(record)
     if quantity == QUEUE or (quantity == SPEED and not long):
@@ -112,7 +114,7 @@ def _greatest(record: Record, quantity: str) -> float:
         return max(float(corridor.word(link, layout.CAPACITY) / factor("vph", step)) for link in links)
     if quantity == SPEED:
         return max(float(corridor.speed(corridor.word(link, layout.FULL_SPEED), link, step) or 0) for link in links)
-    lengths = [(corridor.nodes[link].length or 0) / 1000 if long else 1 for link in links]
+    lengths = _lengths(record, list(links))
     return max(
         corridor.word(link, layout.JAM) / float(UNITS_PER_VEHICLE * length) for link, length in zip(links, lengths)
     )
@@ -147,38 +149,41 @@ def _column(figures: list[float]) -> Values:
     return np.array(figures, dtype=np.float64).reshape(-1, 1)
 
 
-def _vehicles(record: Record, nodes: list[int], states: slice, words: npt.NDArray[np.int64], shares: bool) -> Values:
-    """Vehicles per kilometre or, where a length is missing, vehicles on each link."""
-    long = to_length(record)
-    lengths = [(record.corridor.nodes[node].length or 0) / 1000 if long else 1 for node in nodes]
-    return words / _column([float(UNITS_PER_VEHICLE * length) for length in lengths])
+def _figures(
+    record: Record, quantity: str, nodes: list[int], states: slice, words: npt.NDArray[np.int64], shares: bool
+) -> Values:
+    """The words of a map in its unit."""
+    match quantity:
+        case "vehicles":
+            return words / _column([float(UNITS_PER_VEHICLE * length) for length in _lengths(record, nodes)])
+        case "speed":
+            return _speed(record, nodes, record.vehicles[states].T[nodes].astype(np.float64), words)
+        case "flow":
+            return words / float(factor("vph", record.clock.step))
+    return _shares(record, nodes, words) if shares else words / float(UNITS_PER_VEHICLE)
 
 
-def _flow(record: Record, nodes: list[int], states: slice, words: npt.NDArray[np.int64], shares: bool) -> Values:
-    return words / float(factor("vph", record.clock.step))
+def _lengths(record: Record, nodes: list[int]) -> list[Fraction]:
+    """The kilometres of links or, where a length is missing, 1 for each."""
+    lengths = [record.corridor.nodes[node].length or Fraction(0) for node in nodes]
+    return [length / 1000 if to_length(record) else Fraction(1) for length in lengths]
 
 
-def _speed(record: Record, nodes: list[int], states: slice, words: npt.NDArray[np.int64], shares: bool) -> Values:
+def _speed(record: Record, nodes: list[int], vehicles: Values, flows: npt.NDArray[np.int64]) -> Values:
     """Flow over vehicles, sections a step, as a speed; none where there is less than a vehicle."""
     corridor, step = record.corridor, record.clock.step
     if to_length(record):
         scales = [float(corridor.speed(ONE, node, step) or 0) for node in nodes]
     else:
         scales = [100 * ONE / max(corridor.word(node, layout.FULL_SPEED), 1) for node in nodes]
-    vehicles = record.vehicles[states].T[nodes].astype(np.float64)
-    shares_left = np.divide(words, vehicles, out=np.full(words.shape, np.nan), where=vehicles >= UNITS_PER_VEHICLE)
-    return shares_left * _column(scales)
+    sections = np.divide(flows, vehicles, out=np.full(flows.shape, np.nan), where=vehicles >= UNITS_PER_VEHICLE)
+    return sections * _column(scales)
 
 
-def _queue(record: Record, nodes: list[int], states: slice, words: npt.NDArray[np.int64], shares: bool) -> Values:
-    """Vehicles, or the share of the limit in percent: infinite above a limit of 0, and none where there is no limit."""
-    if not shares:
-        return words / float(UNITS_PER_VEHICLE)
+def _shares(record: Record, nodes: list[int], queues: npt.NDArray[np.int64]) -> Values:
+    """The share of the limit in percent: infinite above a limit of 0, and none where there is no limit."""
     limits = [record.corridor.word(node, layout.QUEUE_LIMIT) for node in nodes]
     divisors = _column([np.nan if limit == NO_LIMIT else limit for limit in limits])
     with np.errstate(divide="ignore", invalid="ignore"):
-        found = 100 * words / divisors
-    return np.where((divisors == 0) & (words == 0), 0.0, found)
-
-
-_SCALED = {VEHICLES: _vehicles, SPEED: _speed, FLOW: _flow, QUEUE: _queue}
+        found = 100 * queues / divisors
+    return np.where((divisors == 0) & (queues == 0), 0.0, found)

@@ -10,7 +10,7 @@ from . import __version__, drawing, maps, marks
 from .figures import MARK, NOT_PROVED
 from .maps import QUANTITIES, QUEUE, Map
 from .axis_labels import LONGEST_NAME, POINTS_PER_INCH, quiet, text_width, wrapped
-from .drawing import Parts, Subjects
+from .drawing import Parts, Origin
 from .subjects import Column, Subject
 
 import matplotlib
@@ -95,7 +95,12 @@ def _picture(shown: Subject, quantities: Sequence[str]) -> Figure:
 def _said(shown: Subject) -> list[str]:
     """The verdict, what belongs to it, and which part is shown."""
     cut = shown.cut()
-    return [str(shown.verdict), *shown.beside(), *([f"shown: only {cut}; the verdict is on the whole"] if cut else [])]
+    return [
+        str(shown.verdict),
+        *shown.not_valid(),
+        *shown.rewritten(),
+        *([f"shown: only {cut}; the verdict is on the whole"] if cut else []),
+    ]
 
 
 def _titles(shown: Subject) -> list[str]:
@@ -149,13 +154,13 @@ def draw_column(axes: Any, columns: Sequence[Column], at: int, row: Sequence[Map
     drawing.draw(row[at], _of(columns[at]), axes, drawing.scale_of(same), parts, size)
 
 
-def _of(column: Column) -> Subjects:
+def _of(column: Column) -> Origin:
     """What a column's maps are of."""
     side, less = column.side, None if column.less is None else column.less.record
-    return Subjects(side.record, side.plan, less, column.window)
+    return Origin(side.record, side.plan, less, column.window)
 
 
-class Sheet(NamedTuple):
+class MapPicture(NamedTuple):
     """A map by itself, for a page: its picture, and where on it the map is, from the left and the top, as shares of the picture."""
 
     svg: bytes
@@ -165,7 +170,7 @@ class Sheet(NamedTuple):
     height: float
 
 
-def sheet(columns: Sequence[Column], at: int, row: Sequence[Map], look: Layout, right: float) -> Sheet:
+def map_picture(columns: Sequence[Column], at: int, row: Sequence[Map], look: Layout, right: float) -> MapPicture:
     """The map of one column by itself, with so many inches for the names."""
     tall = map_height(row)
     height = ABOVE + tall + BELOW
@@ -176,7 +181,7 @@ def sheet(columns: Sequence[Column], at: int, row: Sequence[Map], look: Layout, 
         title = _column_title(columns[at], row[at]) if len(columns) > 1 else ""
         draw_column(axes, columns, at, row, Parts(True, True, _shortened(title, 24), look.longest), look.size)
         content = saved(figure, "svg")
-    return Sheet(content, look.left / look.width, ABOVE / height, wide / look.width, tall / height)
+    return MapPicture(content, look.left / look.width, ABOVE / height, wide / look.width, tall / height)
 
 
 def _column_title(column: Column, shown: Map) -> str:

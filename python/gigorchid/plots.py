@@ -11,7 +11,7 @@ from __future__ import annotations
 
 from typing import Any
 
-from .drawing import NOTHING, Subjects, draw, names_width, scale_of
+from .drawing import NOTHING, Origin, draw, names_width, scale_of
 from .maps import FLOW, QUEUE, SPEED, VEHICLES, map_of
 from .marks import OVER
 from .plans import Plan
@@ -79,7 +79,7 @@ def _drawn(
     if plan is not None and (plan.corridor.links, plan.clock) != (record.corridor.links, record.clock):
         raise ValueError("the plan has not the links and steps of the record: expected the plan that the record is of")
     shown = map_of(record, quantity, window, less)
-    of = Subjects(record, plan, less, Window.whole(record) if window is None else window)
+    of = Origin(record, plan, less, Window.whole(record) if window is None else window)
     return draw(shown, of, _new_axes(names_width(shown, of)) if axes is None else axes, scale_of([shown]))
 
 

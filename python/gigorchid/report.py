@@ -98,19 +98,14 @@ def _titled(shown: Subject, key: str) -> str:
 
 
 def _beneath(shown: Subject) -> list[tuple[bool, str]]:
-    """What belongs to the verdict, each with whether it must not be passed over."""
-    lines = [(side.refusal is not None, line) for side, line in zip(_wrong(shown), shown.beside())]
-    lines += [(False, line) for line in shown.beside()[len(lines) :]]
+    """What belongs to the verdict, each line with whether it must not be passed over."""
+    lines = [(True, line) for line in shown.not_valid()] + [(False, line) for line in shown.rewritten()]
     for key, side in shown.sides.items():
         if shown.comparison is not None and side.refusal is None:
             lines.append((False, f"{key}: {differences.named(side, shown.names[key])}"))
         lines += [(False, f"{line} {MARK}") for line in (side.refusal.rest if side.refusal else [])]
         lines += [(False, f"warning: {each}") for each in side.plan.outside()]
     return lines
-
-
-def _wrong(shown: Subject) -> list[Side]:
-    return [side for side in shown.sides.values() if side.refusal is not None]
 
 
 def _facts(shown: Subject) -> list[tuple[str, str]]:
@@ -294,15 +289,16 @@ def _maps(shown: Subject) -> tuple[list[Row], dict[str, object]]:
     for found in all_maps:
         made = []
         for at, column in enumerate(shown.columns):
-            sheets = {
-                name: pictures.sheet(shown.columns, at, found, look, rights[name]) for name, look in _LOOKS.items()
+            drawn = {
+                name: pictures.map_picture(shown.columns, at, found, look, rights[name])
+                for name, look in _LOOKS.items()
             }
             told = f"{drawing.title_of(found[at])}{f' of {column.title}' if column.title and not column.less else ''}"
             made.append(
-                {"number": len(data), "told": told} | {name: _address(each.svg) for name, each in sheets.items()}
+                {"number": len(data), "told": told} | {name: _address(each.svg) for name, each in drawn.items()}
             )
             data.append(
-                _map_data(column, found[at]) | {name: each._asdict() | {"svg": None} for name, each in sheets.items()}
+                _map_data(column, found[at]) | {name: each._asdict() | {"svg": None} for name, each in drawn.items()}
             )
         rows.append(Row(drawing.title_of(found[0]), made))
     return rows, {"sides": {key: _side_data(side) for key, side in shown.sides.items()}, "maps": data}

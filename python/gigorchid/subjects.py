@@ -64,17 +64,19 @@ class Subject(NamedTuple):
         """Whether somebody who signs must not pass over it."""
         return self.verdict.word in verdicts.STOPPING or self.badge != self.verdict.word
 
-    def beside(self) -> list[str]:
-        """What belongs to the verdict on two plans: which is not valid and why, and whether one is only written differently."""
-        found = self.comparison
-        if found is None:
+    def not_valid(self) -> list[str]:
+        """Of two plans, which are not valid, and why."""
+        if self.comparison is None:
             return []
         wrong = {key: side for key, side in self.sides.items() if side.refusal is not None}
-        lines = [f"{key}, {self.names[key]}, is {verdicts.of_plan(side)}" for key, side in wrong.items()]
-        nodes = len({run.node for run in found.only_written})
-        if found.verdict == SAME and nodes:
-            lines.append(f"only written differently, at {nodes} {'nodes' if nodes > 1 else 'node'} {MARK}")
-        return lines
+        return [f"{key}, {self.names[key]}, is {verdicts.of_plan(side)}" for key, side in wrong.items()]
+
+    def rewritten(self) -> list[str]:
+        """Of two plans that do the same, whether they are written differently."""
+        if self.comparison is None or self.comparison.verdict != SAME:
+            return []
+        nodes = len({run.node for run in self.comparison.only_written})
+        return [f"only written differently, at {nodes} {'nodes' if nodes > 1 else 'node'} {MARK}"] if nodes else []
 
     def cut(self) -> str:
         """Which part of the record the maps show, where it is not all of it."""

@@ -173,3 +173,12 @@ def test_unpack_takes_the_start_that_is_told(prepared: Path, options: str, start
 def test_a_search_is_for_a_time_at_which_a_step_starts(prepared: Path, time: str) -> None:
     done = golden.run(prepared, f"search demo demo/record.csv --at {time} --ramp 1380".split())
     assert done.returncode == 64 and f"--at {time}: " in done.stderr
+
+
+def test_a_plan_in_the_place_of_a_project_is_told(tmp_path: Path) -> None:
+    golden.prepare(tmp_path)
+    for command in ("plot", "report", "simulate"):
+        output = [] if command == "simulate" else ["-o", f"x.{'svg' if command == 'plot' else 'html'}"]
+        done = golden.run(tmp_path, [command, "demo/plan-peak.csv", "peak", *output])
+        assert done.returncode == 64
+        assert "demo/plan-peak.csv: expected a project, a folder with a project.toml" in done.stderr

@@ -38,34 +38,28 @@ def shown(road: Project, first: str, second: str | None = None, **window: str) -
 
 
 def test_one_plan(road: Project) -> None:
-    assert (shown(road, "open").badge, shown(road, "open").stopping, shown(road, "open").beside()) == (
-        "VALID",
-        False,
-        [],
-    )
-    assert (shown(road, "shut").badge, shown(road, "shut").stopping, shown(road, "shut").beside()) == (
-        "NOT VALID",
-        True,
-        [],
-    )
-    assert shown(road, "open").title == "Valley road: plan open"
+    for plan, badge in (("open", "VALID"), ("shut", "NOT VALID")):
+        found = shown(road, plan)
+        assert (found.badge, found.stopping) == (badge, badge != "VALID")
+        assert found.not_valid() == found.rewritten() == []
+        assert found.title == f"Valley road: plan {plan}"
 
 
 def test_two_plans_that_are_only_written_differently(road: Project) -> None:
     found = shown(road, "open", "again")
     assert (found.badge, found.stopping) == ("SAME", False)
-    assert found.beside() == ["only written differently, at 1 node *"]
-    assert shown(road, "open", "open").beside() == []
+    assert (found.not_valid(), found.rewritten()) == ([], ["only written differently, at 1 node *"])
+    assert shown(road, "open", "open").rewritten() == []
 
 
 def test_which_of_two_plans_is_not_valid(road: Project) -> None:
     refusal = side(road, road.plan("shut")).refusal
     found = shown(road, "open", "shut")
     assert (found.badge, found.stopping) == ("DIFFERENT, B NOT VALID", True)
-    assert found.beside() == [f"B, shut, is NOT VALID: {refusal}"]
+    assert (found.not_valid(), found.rewritten()) == ([f"B, shut, is NOT VALID: {refusal}"], [])
     both = shown(road, "shut", "shut")
     assert (both.badge, both.stopping) == ("SAME, A and B NOT VALID", True)
-    assert [line.partition(",")[0] for line in both.beside()] == ["A", "B"]
+    assert [line.partition(",")[0] for line in both.not_valid()] == ["A", "B"]
 
 
 @pytest.mark.parametrize(

@@ -61,9 +61,21 @@
 
   // What a map shows at a place, worked out of its words: vehicles per kilometre, a speed, or a share of a limit; nothing where there is none.
   const figures = {
-    vehicles: { name: "vehicles per km", unit: () => "veh/km", of: (side, node, words) => (side.kilometres[node] ? words[0] / 64 / side.kilometres[node] : null) },
-    speed: { name: "speed *", unit: (side) => side.speeds, of: (side, node, words) => (side.sections[node] === null || words[0] < 64 ? null : (words[2] / words[0]) * side.sections[node]) },
-    queue: { name: "share of its limit *", unit: (side, node) => `% of ${decimals(side.limits[node] / 64)} veh`, of: (side, node, words) => (side.limits[node] ? (100 * words[1]) / side.limits[node] : null) },
+    vehicles: {
+      name: "vehicles per km",
+      unit: () => "veh/km",
+      of: (side, node, words) => (side.kilometres[node] ? words[0] / 64 / side.kilometres[node] : null),
+    },
+    speed: {
+      name: "speed *",
+      unit: (side) => side.speeds,
+      of: (side, node, words) => (side.sections[node] === null || words[0] < 64 ? null : (words[2] / words[0]) * side.sections[node]),
+    },
+    queue: {
+      name: "share of its limit *",
+      unit: (side, node) => `% of ${decimals(side.limits[node] / 64)} veh`,
+      of: (side, node, words) => (side.limits[node] ? (100 * words[1]) / side.limits[node] : null),
+    },
   };
 
   // The same for each record, and how much more it is in B.
