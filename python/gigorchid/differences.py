@@ -14,6 +14,7 @@ from .units import decimal, told_apart
 WRITTEN_COLUMNS = ["node", "from", "until", "A", "B"]
 SHARED_COLUMNS = ["node", "in"]
 ONLY_WRITTEN = "only written differently, with the same vehicles, queue and flows there:"
+WRITTEN_ALIKE = "written alike: the plans agree in every word too"
 BY_IDENTIFIER = "of the nodes in both, by identifier, these differ:"
 
 

@@ -10,7 +10,7 @@ from . import __version__, drawing, maps, marks
 from .figures import MARK, NOT_PROVED
 from .maps import QUANTITIES, QUEUE, Map
 from .axis_labels import LONGEST_NAME, POINTS_PER_INCH, quiet, text_width, wrapped
-from .drawing import Parts, Origin
+from .drawing import Origin, Parts
 from .subjects import Column, Subject
 
 import matplotlib
@@ -18,7 +18,6 @@ from matplotlib.figure import Figure
 from matplotlib.lines import Line2D
 from matplotlib.patches import Patch
 
-FORMATS = ("svg", "png")
 DOTS_PER_INCH = 150
 
 WIDTH = 8.27

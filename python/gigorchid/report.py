@@ -130,7 +130,7 @@ def _differences(found: Comparison | None) -> list[str]:
         lines += [] if differences.in_time(found) else [differences.NOT_IN_TIME]
         return [*lines, differences.shared_line(found)]
     alike = found.verdict == SAME and not found.only_written
-    return differences.first_lines(found) + (["written alike: the plans agree in every word too"] if alike else [])
+    return differences.first_lines(found) + ([differences.WRITTEN_ALIKE] if alike else [])
 
 
 def _difference_tables(found: Comparison | None) -> list[Part]:
@@ -175,13 +175,9 @@ RAMP_COLUMNS = ["ramp", "limit, veh", f"A longest, veh {MARK}", f"at {MARK}", f"
 
 
 def _both_queues(shown: Subject) -> list[list[str]]:
-    """The longest queue of each ramp in A and in B; both have the same ramps, which are those of the road."""
-    both = [{row[0]: row for row in queue_rows(side.record)} for side in shown.sides.values()]
-    rows = []
-    for label in dict.fromkeys([*both[0], *both[1]]):
-        queues = [each[label][1:5:3] if label in each else ["0.0", ""] for each in both]
-        rows.append([label, (both[0].get(label) or both[1][label])[2], *queues[0], *queues[1]])
-    return rows
+    """The longest queue of each ramp in A and in B, which have the same ramps: a node that no plan can meter has the same queue in both."""
+    both = [queue_rows(side.record) for side in shown.sides.values()]
+    return [[a[0], a[2], a[1], a[4], b[1], b[4]] for a, b in zip(*both, strict=True)]
 
 
 def _window(shown: Subject) -> str:

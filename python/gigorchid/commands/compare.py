@@ -12,6 +12,7 @@ from ..differences import (
     NOT_IN_TIME,
     ONLY_WRITTEN,
     SHARED_COLUMNS,
+    WRITTEN_ALIKE,
     WRITTEN_COLUMNS,
     first_lines,
     in_time,
@@ -84,7 +85,7 @@ def _on_one_road(found: Comparison) -> list[Shown]:
         if len(rows) > MOST_SHOWN:
             lines.append(f"and {len(rows) - MOST_SHOWN:,} more; --json lists them all")
     elif found.verdict == SAME:
-        lines.append("written alike: the plans agree in every word too")
+        lines.append(WRITTEN_ALIKE)
     return lines + ([NOT_PROVED] if found.first_word is not None else [])
 
 
