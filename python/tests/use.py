@@ -58,6 +58,8 @@ def screenshot(page: Path) -> bytes:
 
     with opened(1060, 1160) as browser:
         browser.get(page.as_uri())
+        # The font that matplotlib brings along, since what a browser takes for its own differs from one machine to the next.
+        browser.execute_script("document.body.style.fontFamily = 'DejaVu Sans'")
         point(browser, 480, 1000)
         return bytes(browser.get_screenshot_as_png())
 
