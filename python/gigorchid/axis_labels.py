@@ -117,6 +117,14 @@ def quiet() -> Iterator[None]:
         yield
 
 
+def fitted(text: str, size: float, width: float, bold: bool = False) -> str:
+    """A text that is no wider than so many points: as much of it as fits."""
+    if text_width(text, size, bold) <= width:
+        return text
+    kept = next((at for at in range(len(text), 0, -1) if text_width(f"{text[:at]}…", size, bold) <= width), 0)
+    return f"{text[:kept]}…"
+
+
 def wrapped(text: str, size: float, width: float, bold: bool = False) -> list[str]:
     """A text in lines that are no wider than so many points, but for a word that is."""
     lines: list[str] = []

@@ -20,6 +20,7 @@ from .axis_labels import (
     POINTS_PER_INCH,
     SIGN_WIDTH,
     Name,
+    fitted,
     label_names,
     label_times,
     size_in_points,
@@ -43,6 +44,8 @@ DIFFERENCE_COLOURS = "PuOr_r"
 NOTHING = "0.8"
 """The grey of what has no figure: no speed without a vehicle, no share of a limit where there is none."""
 TEXT_SIZE = 8.0
+TITLE_GAP = 14
+"""From the title to the scale of colours, in points, with half a figure of the scale."""
 
 
 class Scale(NamedTuple):
@@ -97,7 +100,9 @@ def draw(shown: Map, of: Origin, axes: Any, scale: Scale, parts: Parts = Parts()
         mark_differences(frame)
     else:
         mark(frame, of.record, of.plan)
-    title = title_of(shown) if parts.title is None else parts.title
+    # The scale takes at least three tenths of the room above a map.
+    room = 0.7 * size_in_points(axes)[0] - TITLE_GAP
+    title = fitted(title_of(shown) if parts.title is None else parts.title, size + 0.5, room, True)
     _write_title(axes, title, size)
     _write_scale(frame, mesh, title)
     return axes
@@ -220,7 +225,7 @@ def _write_title(axes: Any, title: str, size: float) -> None:
 def _write_scale(frame: Frame, mesh: Any, title: str) -> None:
     """The scale of colours above the map at the right, as long as the title leaves room for, within reason."""
     width, height = size_in_points(frame.axes)
-    left = width - text_width(title, frame.size + 0.5, True) - 14
+    left = width - text_width(title, frame.size + 0.5, True) - TITLE_GAP
     long = max(min(0.5 * width, 150, left), 0.3 * width)
     box = frame.axes.inset_axes([1 - long / width, 1 + 6 / height, long / width, 6 / height])
     beyond = not frame.shown.difference and bool((frame.shown.values > 1.005 * frame.shown.most).any())

@@ -63,10 +63,11 @@ def ramps(window: Window, *records: Record) -> list[int]:
 
 
 def map_of(record: Record, quantity: str, window: Window | None = None, less: Record | None = None) -> Map:
-    """The map of a quantity; with `less`, a record of the same road, of what this one has more than that one."""
+    """The map of a quantity; with `less`, a record of the same road, of what this one has more than that one, with lengths and units as this one
+    has them."""
     shown = Window.whole(record) if window is None else window
-    records = (record,) if less is None else (record, less)
-    _test(quantity, shown, records)
+    _test(quantity, shown, record, less)
+    records = (record,) if less is None else (record, Record(less.words, record.corridor, record.clock))
     nodes = ramps(shown, *records) if quantity == QUEUE else list(range(shown.first_link, shown.last_link + 1))
     # What flows does so in a step, and the last state begins none.
     last = shown.last if quantity in (VEHICLES, QUEUE) else min(shown.last, record.clock.steps - 1)
@@ -84,9 +85,9 @@ def map_of(record: Record, quantity: str, window: Window | None = None, less: Re
     return Map(quantity, nodes, shown.first, more, words[0] - words[1], unit, greatest, proved, True)
 
 
-def _test(quantity: str, window: Window, records: tuple[Record, ...]) -> None:
+def _test(quantity: str, window: Window, record: Record, less: Record | None) -> None:
     """Faults what no map can be of."""
-    whole = Window.whole(records[0])
+    whole = Window.whole(record)
     if quantity not in QUANTITIES:
         raise ValueError(f"{quantity}: expected one of {', '.join(QUANTITIES)}")
     if not (
@@ -95,7 +96,7 @@ def _test(quantity: str, window: Window, records: tuple[Record, ...]) -> None:
         raise ValueError(
             f"{window} is no part of a record with states 0 to {whole.last} and links 1 to {whole.last_link}"
         )
-    if len({(each.corridor.links, each.clock) for each in records}) > 1:
+    if less is not None and (less.corridor.links, less.clock) != (record.corridor.links, record.clock):
         raise ValueError("the records have not the same links and steps: expected two of one road")
 
 

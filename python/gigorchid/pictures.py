@@ -134,7 +134,7 @@ def _draw_row(figure: Figure, shown: Subject, row: Sequence[Map], place: tuple[f
     for at, (left, wide) in enumerate(_places(shown, right)):
         column = shown.columns[at]
         axes = figure.add_axes([left / width, place[0] / height, wide / width, place[1] / height])
-        title = _shortened(_column_title(column, row[at]), 24) if last else None
+        title = _column_title(column, row, at) if last else None
         parts = Parts(own or at == 0, own or at == last, title, _look(shown).longest)
         draw_column(axes, shown.columns, at, row, parts, drawing.TEXT_SIZE)
 
@@ -148,8 +148,8 @@ def _places(shown: Subject, right: float) -> list[tuple[float, float]]:
 
 
 def draw_column(axes: Any, columns: Sequence[Column], at: int, row: Sequence[Map], parts: Parts, size: float) -> None:
-    """Draws the map of one column, in colours that mean the same for A and for B."""
-    same = [each for each in row if each.difference == row[at].difference]
+    """Draws the map of one column, in colours that mean the same for A and for B where they are in one unit."""
+    same = [each for each in row if (each.difference, each.unit) == (row[at].difference, row[at].unit)]
     drawing.draw(row[at], _of(columns[at]), axes, drawing.scale_of(same), parts, size)
 
 
@@ -177,26 +177,22 @@ def map_picture(columns: Sequence[Column], at: int, row: Sequence[Map], look: La
         figure = Figure(figsize=(look.width, height))
         wide = look.width - look.left - right
         axes = figure.add_axes([look.left / look.width, BELOW / height, wide / look.width, tall / height])
-        title = _column_title(columns[at], row[at]) if len(columns) > 1 else ""
-        draw_column(axes, columns, at, row, Parts(True, True, _shortened(title, 24), look.longest), look.size)
+        title = _column_title(columns[at], row, at) if len(columns) > 1 else ""
+        draw_column(axes, columns, at, row, Parts(True, True, title, look.longest), look.size)
         content = saved(figure, "svg")
     return MapPicture(content, look.left / look.width, ABOVE / height, wide / look.width, tall / height)
 
 
-def _column_title(column: Column, shown: Map) -> str:
-    """What is above a map that has others beside it; the queues of A and B are in percent, and what one has more in vehicles."""
-    if column.less is None:
-        return column.title
-    return f"{column.title}, {shown.unit} {MARK}" if shown.quantity == QUEUE else f"{column.title} {MARK}"
+def _column_title(column: Column, row: Sequence[Map], at: int) -> str:
+    """What is above a map that has others beside it, with its unit where that is not the one of the first: the queues of A and B are in percent, and
+    what one has more in vehicles."""
+    unit = "" if row[at].unit == row[0].unit else f", {row[at].unit}"
+    return f"{column.key}{unit}, {column.name}" if column.less is None else f"{column.key}{unit} {MARK}"
 
 
 def _kept_together(text: str) -> str:
     """The number of a refusal stays in one line with its word."""
     return text.replace("[refusal ", "[refusal\u00a0")
-
-
-def _shortened(text: str, most: int) -> str:
-    return text if len(text) <= most else text[: most - 1] + "…"
 
 
 def _write(figure: Figure, left: float, bottom: float, text: str, size: float, **settings: Any) -> None:

@@ -182,8 +182,8 @@ def _both_queues(shown: Subject) -> list[list[str]]:
 
 def _window(shown: Subject) -> str:
     """What part of the record the maps show."""
-    cut, clock = shown.cut(), shown.columns[0].side.record.clock
-    whole = f"All links, from {clock.at(0)} to {clock.at(clock.steps)}."
+    cut = shown.cut()
+    whole = "All links, at all times that were simulated."
     return f"Only {cut}; the verdict and the tables are on the whole." if cut else whole
 
 
@@ -252,8 +252,7 @@ def _as_text(words: Words) -> str:
 
 
 def _side_data(side: Side) -> dict[str, object]:
-    clock, record = side.project.clock, side.record.states[:, :, :RECORD_WORDS]
-    corridor = side.project.corridor
+    clock, corridor, record = side.record.clock, side.record.corridor, side.record.states[:, :, :RECORD_WORDS]
     sections = [corridor.speed(ONE, node, clock.step) if node else None for node in range(len(corridor.nodes))]
     return {
         "perHour": float(1 / factor("vph", clock.step)),
@@ -263,8 +262,9 @@ def _side_data(side: Side) -> dict[str, object]:
         "kilometres": [None if node.length is None else float(node.length / 1000) for node in corridor.nodes],
         "sections": [None if speed is None else float(speed) for speed in sections],
         "speeds": SYMBOLS[corridor.speeds],
+        "toLength": maps.to_length(side.record),
         "times": [clock.at(state) for state in range(clock.steps + 1)],
-        "nodes": [node.label for node in side.project.corridor.nodes],
+        "nodes": [node.label for node in corridor.nodes],
         "record": _as_text(record.reshape(-1)),
         "plan": _as_text(side.plan.words),
     }
@@ -272,7 +272,7 @@ def _side_data(side: Side) -> dict[str, object]:
 
 def _corridor_words(side: Side, place: int) -> list[int]:
     """A word of each node."""
-    corridor = side.project.corridor
+    corridor = side.record.corridor
     return [corridor.word(node, place) for node in range(len(corridor.nodes))]
 
 

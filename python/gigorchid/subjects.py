@@ -8,6 +8,8 @@ from . import verdicts
 from .compare import NOT_COMPARABLE, SAME, Comparison, Side, compare
 from .figures import MARK
 from .maps import Map, map_of
+from .plans import Plan
+from .records import Record
 from .verdicts import Verdict
 from .windows import Window
 
@@ -79,16 +81,11 @@ class Subject(NamedTuple):
         return [f"only written differently, at {nodes} {'nodes' if nodes > 1 else 'node'} {MARK}"] if nodes else []
 
     def cut(self) -> str:
-        """Which part of the record the maps show, where it is not all of it."""
-        column = self.columns[0]
-        window, clock, nodes = column.window, column.side.record.clock, column.side.record.corridor.nodes
-        whole, parts = window.whole(column.side.record), []
-        if (window.first_link, window.last_link) != (whole.first_link, whole.last_link):
-            parts.append(f"the links from {nodes[window.first_link - 1].label} to {nodes[window.last_link].label}")
-        if (window.first, window.last) != (whole.first, whole.last):
-            last = f"to {clock.at(clock.steps)}" if window.last == clock.steps else f"until {clock.at(window.last + 1)}"
-            parts.append(f"from {clock.at(window.first)} {last}")
-        return ", ".join(parts)
+        """Which part of the records the maps show, where it is not all of them."""
+        cuts = {column.key: _cut(column) for column in self.columns if column.less is None}
+        if len(set(cuts.values())) == 1:
+            return cuts["A"]
+        return "; ".join(f"of {key} {cut or 'all'}" for key, cut in cuts.items())
 
     @property
     def names(self) -> dict[str, str]:
@@ -111,6 +108,8 @@ def subject(
         return Subject(a.project.title, f"plan {name}", verdicts.of_plan(a), [Column("A", name, "", a, window)])
     found = compare(a, b)
     names = _names(a, b)
+    if found.verdict != NOT_COMPARABLE:
+        b = _seen_on(a, b)
     columns = [
         Column("A", names[0], f"A, {names[0]}", a, window),
         Column("B", names[1], f"B, {names[1]}", b, Window.of(b.record, start, until, links)),
@@ -120,6 +119,25 @@ def subject(
     titles = list(dict.fromkeys([a.project.title, b.project.title]))
     plans = f"plans {names[0]} (A) and {names[1]} (B)"
     return Subject(" and ".join(titles), plans, verdicts.of_comparison(found), columns, found)
+
+
+def _cut(column: Column) -> str:
+    """Which part of a column's record its maps show, where it is not all of it."""
+    window, clock, nodes = column.window, column.side.record.clock, column.side.record.corridor.nodes
+    whole, parts = window.whole(column.side.record), []
+    if (window.first_link, window.last_link) != (whole.first_link, whole.last_link):
+        parts.append(f"the links from {nodes[window.first_link - 1].label} to {nodes[window.last_link].label}")
+    if (window.first, window.last) != (whole.first, whole.last):
+        last = f"to {clock.at(clock.steps)}" if window.last == clock.steps else f"until {clock.at(window.last + 1)}"
+        parts.append(f"from {clock.at(window.first)} {last}")
+    return ", ".join(parts)
+
+
+def _seen_on(a: Side, b: Side) -> Side:
+    """B on the road as A has it: the words of one road may have other names, lengths and units of speed in another project."""
+    corridor, clock = a.project.corridor, a.project.clock
+    plan = Plan(b.plan.name, b.plan.words, corridor, clock, b.plan.source)
+    return b._replace(plan=plan, record=Record(b.record.words, corridor, clock))
 
 
 def _names(a: Side, b: Side) -> list[str]:

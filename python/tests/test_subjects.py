@@ -2,12 +2,15 @@
 
 from __future__ import annotations
 
+import json
+import re
 from collections.abc import Iterator
 
+import numpy as np
 import pytest
 from projects import VALLEY, changed, folder_of, run
 
-from gigorchid import Project, maps, plots
+from gigorchid import Project, maps, pictures, plots, report
 from gigorchid.compare import side
 from gigorchid.subjects import Subject, subject
 from gigorchid.windows import Window
@@ -113,3 +116,56 @@ def test_what_no_map_can_be_of_is_told(road: Project) -> None:
         plots.flow(record, less=other.simulate(other.full_plan()))
     with pytest.raises(ValueError, match="the plan has not the links and steps of the record"):
         plots.flow(record, plan=other.full_plan())
+
+
+@pytest.fixture(scope="module")
+def nameless() -> Iterator[Project]:
+    """The same road without names, lengths and units: its words alone, as block files have them."""
+    with folder_of(VALLEY) as folder:
+        run(folder, "pack", ".", "--into", "packed")
+        files = [f"packed/{name}.blocks" for name in ("corridor", "demands", "plan-open", "plan-metered")]
+        run(folder, "unpack", *files, "--into", "nameless", "--step", "10", "--start", "07:00")
+        yield Project.load(folder / "nameless")
+
+
+def test_two_projects_of_one_road_are_shown_as_the_first_has_it(nameless: Project) -> None:
+    """Else a figure in vehicles would be taken from one in vehicles per kilometre."""
+    with folder_of(VALLEY) as folder:
+        valley = Project.load(folder)
+        given = ((valley, "open"), (nameless, "metered"), (valley, "metered"))
+        plans = [side(road, road.plan(plan)) for road, plan in given]
+    mixed, plain = subject(plans[0], plans[1]), subject(plans[0], plans[2])
+    assert mixed.one_road and len(mixed.columns) == len(plain.columns) == 3
+    for quantity in maps.QUANTITIES:
+        for one, other in zip(mixed.columns, plain.columns):
+            np.testing.assert_equal(one.map(quantity)._asdict(), other.map(quantity)._asdict())
+    data = [
+        json.loads(re.findall(r'type="application/json">(.*)</script>', report.page(each))[0])
+        for each in (mixed, plain)
+    ]
+    assert data[0]["sides"] == data[1]["sides"]
+    # Whoever takes them from each other in Python has the first one's units too.
+    found = maps.map_of(plans[2].record, "vehicles", less=plans[1].record)
+    assert (found.unit, found.values.any()) == ("veh/km", False)
+
+
+def test_maps_of_two_roads_in_two_units_say_so(nameless: Project) -> None:
+    """Each has the scale of its own unit."""
+    longer = changed(VALLEY, ("corridor.csv", "Harbour,500", "Harbour,550"))
+    with folder_of(longer) as folder:
+        other = Project.load(folder)
+        shown_here = subject(side(other, other.plan("open")), side(nameless, nameless.plan("open")))
+    assert not shown_here.one_road
+    figure = pictures.picture(shown_here, ["speed"])
+    ends = [axes.collections[0].get_clim()[1] for axes in figure.axes]
+    titles = [text.get_text() for axes in figure.axes for text in axes.texts if text.get_fontweight() == "bold"]
+    assert ends == [90, 100]
+    assert titles[0].startswith("A, ") and titles[1].startswith("B, % of full speed, n")
+
+
+def test_a_window_that_cuts_one_of_two_roads_is_told() -> None:
+    later = changed(VALLEY, ("project.toml", 'start = "07:00"', 'start = "07:00:10"'))
+    with folder_of(later) as one, folder_of(VALLEY) as other:
+        roads = [Project.load(folder) for folder in (one, other)]
+        found = subject(*(side(road, road.full_plan()) for road in roads), start="07:00:10")
+    assert found.cut() == "of A all; of B from 07:00:10 to 07:01:00"

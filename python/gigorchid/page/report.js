@@ -64,12 +64,12 @@
     vehicles: {
       name: "vehicles per km",
       unit: () => "veh/km",
-      of: (side, node, words) => (side.kilometres[node] ? words[0] / 64 / side.kilometres[node] : null),
+      of: (side, node, words) => (side.toLength ? words[0] / 64 / side.kilometres[node] : null),
     },
     speed: {
       name: "speed *",
-      unit: (side) => side.speeds,
-      of: (side, node, words) => (side.sections[node] === null || words[0] < 64 ? null : (words[2] / words[0]) * side.sections[node]),
+      unit: (side) => (side.toLength ? side.speeds : "% of full speed"),
+      of: (side, node, words) => (words[0] < 64 ? null : (words[2] / words[0]) * (side.toLength ? side.sections[node] : 6553600 / Math.max(side.full[node], 1))),
     },
     queue: {
       name: "share of its limit *",
