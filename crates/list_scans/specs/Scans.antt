@@ -1,12 +1,14 @@
 -- The refusals of the lists in terms of their words, for the functions that scan a corridor or the rows of a list.
-use Prim.Native.Nat.{ℕ, suc, _+_, _*_}
+use Prim.Native.Nat.{ℕ, zero, suc, _+_, _*_, _≤_, _<_}
+use mathlib.Core.Bool.{cond}
+use mathlib.Core.Path.{_≡_}
 use mathlib.Core.List.{List}
-use lib.ListN.{getD}
+use lib.ListN.{length, getD}
 use lib.Dec.{eqb}
 use Rattle.tables.specs.declared.Answer.{Answer}
 use Rattle.tables.specs.Answer.{orElse}
 use Rattle.tables.specs.First.{firstNode, firstPlace}
-use Rattle.tables.specs.Grid.{place}
+use Rattle.tables.specs.Grid.{place, rowWords}
 use Rattle.list_scans.specs.declared.inner.NodeTest.{NodeTest}
 use Rattle.list_scans.specs.declared.inner.NodeTest.the-variants.{Link, Ramp, Start, Demand, Plan}
 use Rattle.lists.specs.Words.{nodeAt, free}
@@ -41,6 +43,36 @@ RowFor Ramp row links = Unit {0}
 RowFor Start row links = Unit {0}
 RowFor Demand row links = RowFits 2 row links
 RowFor Plan row links = RowFits 2 row links
+
+-- whether a test reads a row
+unfoldable pub ReadsRow : NodeTest → Type 0
+ReadsRow Link = ⊥
+ReadsRow Ramp = ⊥
+ReadsRow Start = ⊥
+ReadsRow Demand = Unit {0}
+ReadsRow Plan = Unit {0}
+
+-- what bounds the words of node i in the row: of the demands 65,536, and 0 where zero is fixed; of a plan C and V
+unfoldable pub mostWord : NodeTest → List ℕ → ℕ → ℕ → ℕ → ℕ
+mostWord Link corridor links i q = 0
+mostWord Ramp corridor links i q = 0
+mostWord Start corridor links i q = 0
+mostWord Demand corridor links i zero = cond (eqb i links) 0 65536
+mostWord Demand corridor links i (suc q) = cond (eqb i links) 0 (cond (eqb i 0) 0 65536)
+mostWord Plan corridor links i zero = nodeAt corridor i .ramp .capacity
+mostWord Plan corridor links i (suc q) = nodeAt corridor i .link .fullSpeed
+
+-- both, as the code has them
+abbrev pub MostAre : NodeTest → List ℕ → ℕ → ℕ → ℕ → ℕ → Type 0
+MostAre test corridor links i first second = (first ≡ mostWord test corridor links i 0) × (second ≡ mostWord test corridor links i 1)
+
+unfoldable pub mostRow : NodeTest → List ℕ → ℕ → List ℕ
+mostRow test corridor links = rowWords 2 (suc links) (mostWord test corridor links)
+
+-- no word of a row is above its bound, and what may leave link N is in its range
+pub record Within (row most : List ℕ) (downstream : ℕ) : Type 0 where
+  pub words : (j : ℕ) → j < length row → getD row j 0 ≤ getD most j 0
+  pub beyond : downstream ≤ 65536
 
 -- 2, 3 or 4 over the corridor's nodes, which ask nothing of a row
 abbrev pub corridorScan : NodeTest → List ℕ → ℕ → Answer

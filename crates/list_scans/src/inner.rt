@@ -1,17 +1,18 @@
 // The first refusal of the lists: 2 to 5 by the corridor's nodes and the demands' rows, 6 by the plan's rows.
 ghost use mathlib.Core.Path.{_≡_};
 ghost use mathlib.Core.Bool.{true};
-ghost use Prim.Native.Nat.{suc, _+_, _*_, _≤_, _<_};
+ghost use mathlib.Core.List.{List};
+ghost use Prim.Native.Nat.{ℕ, suc, _+_, _*_, _≤_, _<_};
 ghost use lib.ListN.{length, getD};
 ghost use Rattle.tables.specs.Answer.{refusal};
 ghost use Rattle.tables.specs.First.{firstNode, firstPlace};
 ghost use Rattle.faults.specs.Lists.{startFault, demandFault, planFault};
 ghost use Rattle.lists.specs.Words.{linksOf, stepsOf, nodeAt, roadOf, planLength};
-ghost use Rattle.lists.specs.Fits.{CorridorFits, NodeIn};
+ghost use Rattle.lists.specs.Fits.{CorridorFits, RowFits, NodeIn};
 ghost use Rattle.lengths.specs.Lengths.{sizes};
 ghost use Rattle.list_scans.specs.Refusals.{ranges, planBounds};
-ghost use Rattle.list_scans.specs.Scans.{nodeFault, nodeFaultIn, nodeFaultAt, RowFor, corridorRefusal};
-ghost use Rattle.list_scans.specs.declared.inner.NodeTest.the-variants.{Ramp};
+ghost use Rattle.list_scans.specs.Scans.{nodeFault, nodeFaultIn, nodeFaultAt, RowFor, ReadsRow, MostAre, mostRow, Within, corridorRefusal};
+ghost use Rattle.list_scans.specs.declared.inner.NodeTest.the-variants.{Ramp, Demand};
 use lists::inner::rows;
 use lists::inner::words;
 use road::Units;
@@ -166,6 +167,104 @@ pub fn scan_corridor(corridor: &[u32], links: usize) -> Answer
     scan_nodes(NodeTest::Start, 0, corridor, links, corridor, none)
 }
 
+// Whether a word is not above `most` either.
+fn still(within: bool, word: u32, most: u32) -> bool
+    ensures { λ r. ⌜ (r ≡ true → (within ≡ true) × (word ≤ most)) ⌝ }
+{
+    if word > most {
+        return false;
+    }
+    within
+}
+
+// Whether no word of a row is above the word beside it. All are looked at, without a branch, so that several are compared at once.
+fn row_within(row: &[u32], most: &[u32]) -> bool
+    requires { ⌜ length (now row) ≡ length (now most) ⌝ }
+    ensures { λ r. ⌜ (r ≡ true → (j : ℕ) → j < length (now (row .entry)) → getD (now (row .entry)) j 0 ≤ getD (now (most .entry)) j 0) ⌝ }
+{
+    let mut within = true;
+    let mut j: usize = 0;
+    while j < row.len() {
+        within = still(within, row[j], most[j]);
+        j += 1;
+    }
+    within
+}
+
+// Whether a row, which `most` bounds, has no fault: then it need not be scanned node by node. Nothing is said of a row that may have one.
+pub fn clear(row: &[u32], most: &[u32], downstream: Units) -> bool
+    requires { ⌜ length (now row) ≡ length (now most) ⌝ }
+    ensures { λ r. ⌜ (r ≡ true → Within (now (row .entry)) (now (most .entry)) (downstream .0)) ⌝ }
+{
+    if downstream.0 > 65536 {
+        return false;
+    }
+    row_within(row, most)
+}
+
+// What bounds the two words of a node.
+struct Most {
+    first: u32,
+    second: u32,
+}
+
+// What bounds the demands of node i.
+fn demand_most(links: usize, i: usize) -> Most
+    ensures { λ r. ⌜ ((corridor : List ℕ) → MostAre Demand corridor links i (r .first) (r .second)) ⌝ }
+{
+    if i == links {
+        return Most {
+            first: 0,
+            second: 0,
+        };
+    }
+    if i == 0 {
+        return Most {
+            first: 65536,
+            second: 0,
+        };
+    }
+    Most {
+        first: 65536,
+        second: 65536,
+    }
+}
+
+// What bounds the words of node i in the row that a test reads.
+fn most_at(test: NodeTest, corridor: &[u32], links: usize, i: usize) -> Most
+    requires { ⌜ CorridorFits (now corridor) links × (i ≤ links) ⌝ }
+    ensures { λ r. ⌜ MostAre test (now (corridor .entry)) links i (r .first) (r .second) ⌝ }
+{
+    let none = Most {
+        first: 0,
+        second: 0,
+    };
+    match test {
+        NodeTest::Link => none,
+        NodeTest::Ramp => none,
+        NodeTest::Start => none,
+        NodeTest::Demand => demand_most(links, i),
+        NodeTest::Plan => Most {
+            first: words::ramp_at(corridor, links, i).capacity.0,
+            second: words::link_at(corridor, links, i).full_speed.0,
+        },
+    }
+}
+
+// The row that bounds the rows which a test reads.
+pub fn most_row(test: NodeTest, corridor: &[u32], links: usize, most: &mut [u32])
+    requires { ⌜ CorridorFits (now corridor) links × RowFits 2 (now most) links ⌝ }
+    ensures { λ _. ⌜ now (most .exit) ≡ mostRow test (now (corridor .entry)) links ⌝ }
+{
+    let nodes = links + 1;
+    let mut i: usize = 0;
+    while i < nodes {
+        let bound = most_at(test, corridor, links, i);
+        rows::put_two(most, i, bound.first, bound.second);
+        i += 1;
+    }
+}
+
 // The first node that a test refuses in row k of a list whose rows begin after `skip` words, and in its word for that row after them.
 fn scan_row(
     test: NodeTest,
@@ -175,8 +274,9 @@ fn scan_row(
     steps: usize,
     list: &[u32],
     skip: usize,
+    most: &[u32],
 ) -> Answer
-    requires { ⌜ CorridorFits (now corridor) links ⌝ }
+    requires { ⌜ CorridorFits (now corridor) links × ReadsRow test × (now most ≡ mostRow test (now corridor) links) ⌝ }
     requires { ⌜ (k < steps) × (steps ≤ 1440) × (skip ≤ 1) × (skip + steps * (suc links * 2) ≤ length (now list)) ⌝ }
     ensures { λ r. ⌜ r ≡ firstNode (suc links) k (nodeFaultAt test (now (corridor .entry)) links steps skip (now (list .entry)) k) ⌝ }
 {
@@ -184,7 +284,11 @@ fn scan_row(
     let at = skip + rows::row_at(k, width, steps);
     let end = at + width;
     let downstream = words::downstream_past(list, skip + rows::table_length(steps, width), k);
-    scan_nodes(test, k, corridor, links, &list[at..end], downstream)
+    let row = &list[at..end];
+    if clear(row, most, downstream) {
+        return Answer::Accepted;
+    }
+    scan_nodes(test, k, corridor, links, row, downstream)
 }
 
 // The first row and node that a test refuses, in a list whose rows begin after `skip` words.
@@ -195,20 +299,41 @@ fn scan_rows(
     steps: usize,
     list: &[u32],
     skip: usize,
+    most: &[u32],
 ) -> Answer
-    requires { ⌜ CorridorFits (now corridor) links ⌝ }
+    requires { ⌜ CorridorFits (now corridor) links × ReadsRow test × (now most ≡ mostRow test (now corridor) links) ⌝ }
     requires { ⌜ (steps ≤ 1440) × (skip ≤ 1) × (skip + steps * (suc links * 2) ≤ length (now list)) ⌝ }
     ensures { λ r. ⌜ r ≡ firstPlace steps (suc links) (nodeFaultAt test (now (corridor .entry)) links steps skip (now (list .entry))) ⌝ }
 {
     let mut k = 0;
     while k < steps {
-        let answer = scan_row(test, k, corridor, links, steps, list, skip);
+        let answer = scan_row(test, k, corridor, links, steps, list, skip, most);
         if is_refused(answer) {
             return answer;
         }
         k += 1;
     }
     Answer::Accepted
+}
+
+// The same, with room for the row that bounds those of the list.
+fn scan_list(
+    test: NodeTest,
+    corridor: &[u32],
+    links: usize,
+    steps: usize,
+    list: &[u32],
+    skip: usize,
+) -> Answer
+    requires { ⌜ CorridorFits (now corridor) links × ReadsRow test ⌝ }
+    requires { ⌜ (steps ≤ 1440) × (skip ≤ 1) × (skip + steps * (suc links * 2) ≤ length (now list)) ⌝ }
+    ensures { λ r. ⌜ r ≡ firstPlace steps (suc links) (nodeFaultAt test (now (corridor .entry)) links steps skip (now (list .entry))) ⌝ }
+{
+    let two = (links + 1) * 2;
+    let mut room = [0u32; 130];
+    let most = &mut room[..two];
+    most_row(test, corridor, links, most);
+    scan_rows(test, corridor, links, steps, list, skip, most)
 }
 
 // The first refusal of 2 to 5.
@@ -221,7 +346,7 @@ pub fn ranges(corridor: &[u32], demands: &[u32]) -> Answer
     if is_refused(answer) {
         return answer;
     }
-    scan_rows(
+    scan_list(
         NodeTest::Demand,
         corridor,
         links,
@@ -238,7 +363,7 @@ pub fn bounds(corridor: &[u32], demands: &[u32], plan: &[u32]) -> Answer
     ensures { λ r. ⌜ r ≡ planBounds (now (corridor .entry)) (now (demands .entry)) (now (plan .entry)) ⌝ }
 {
     let links = words::links_of(corridor);
-    scan_rows(
+    scan_list(
         NodeTest::Plan,
         corridor,
         links,

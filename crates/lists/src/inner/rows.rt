@@ -1,7 +1,9 @@
 // The rows of the word lists: how many words they have, and where each begins.
 ghost use mathlib.Core.Path.{_≡_};
 ghost use Prim.Native.Nat.{suc, _+_, _*_, _≤_, _<_};
+ghost use lib.ListN.{set};
 ghost use Rattle.lists.specs.Words.{Width};
+ghost use Rattle.lists.specs.Fits.{NodeIn};
 
 // How many words `rows` rows of `width` words have.
 pub fn table_length(rows: usize, width: usize) -> usize
@@ -25,4 +27,14 @@ pub fn state_words(links: usize, width: usize) -> usize
     ensures { λ r. ⌜ (r ≡ suc links * width) × (r ≤ 325) ⌝ }
 {
     (links + 1) * width
+}
+
+// The two words of node i, stored in a row.
+pub fn put_two(row: &mut [u32], i: usize, first: u32, second: u32)
+    requires { ⌜ NodeIn 2 (now row) i ⌝ }
+    ensures { λ _. ⌜ now (row .exit) ≡ set (set (now (row .entry)) (i * 2) first) (i * 2 + 1) second ⌝ }
+{
+    let at = i * 2;
+    row[at] = first;
+    row[at + 1] = second;
 }

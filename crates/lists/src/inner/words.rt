@@ -73,7 +73,7 @@ fn node_word(corridor: &[u32], links: usize, i: usize, q: usize) -> u32
 }
 
 // Word q of node i in a row that has `width` words for each node.
-fn row_word(row: &[u32], width: usize, i: usize, q: usize) -> u32
+pub fn row_word(row: &[u32], width: usize, i: usize, q: usize) -> u32
     requires { ⌜ NodeIn width (now row) i ⌝ }
     requires { ⌜ q < width ⌝ }
     ensures { λ r. ⌜ r ≡ getD (now (row .entry)) (i * width + q) 0 ⌝ }
