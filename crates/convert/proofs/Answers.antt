@@ -1,5 +1,5 @@
 -- Laws of the whole answers, in the shape of what the code returns, and what the refusals before a call leave for it.
-use Prim.Native.Nat.{ℕ, suc, _+_, _-_, _*_, _≤_}
+use Prim.Native.Nat.{ℕ, suc, _+_, _-_, _*_, _≤_, _<_}
 use mathlib.Core.Bool.{Bool, true, false, not, _&&_}
 use mathlib.Core.List.{List, []}
 use mathlib.Core.Path.{_≡_, refl, sym, ap, ap₂, subst, subst₂, _∙_}
@@ -8,10 +8,11 @@ use lib.ListN.{length, getD, take, drop}
 use lib.Dec.{eqb}
 use Rattle.tables.specs.declared.Answer.{Answer}
 use Rattle.tables.specs.declared.Answer.the-variants.{Accepted}
-use Rattle.tables.specs.Answer.{orElse, refusal, sized}
-use Rattle.tables.proofs.Answers.{Refuses, orElse-accepts, or-else-stop, or-else-next, sized-iff, sized-refuses}
+use Rattle.tables.specs.Answer.{isRefused, orElse, refusal, sized}
+use Rattle.tables.proofs.Answers.{Refuses, told-refused, told-accepted, orElse-accepts, or-else-stop, or-else-next, sized-iff, sized-refuses}
 use Rattle.tables.proofs.Tests.{and-iff}
-use Rattle.tables.proofs.Sum.{Summed, summed-ended, sum-same}
+use Rattle.tables.proofs.First.{Passed, passed-begun, passed-told, passed-stop, passed-ended}
+use Rattle.tables.proofs.Sum.{Summed, summed-begun, summed-more, summed-ended, sum-same}
 use Rattle.road.specs.Corridor.{NodeState}
 use Rattle.road.specs.Run.{cost}
 use Rattle.record_faults.specs.Records.{fixedFault, totalFault}
@@ -26,7 +27,7 @@ use Rattle.simulate_rows.specs.Rows.{rowCost}
 use Rattle.convert.specs.Refusals.{costFault, judged}
 use Rattle.convert.specs.Convert.{recordRefusal, recordAnswer, checkAnswer, convertAnswer}
 use Rattle.convert_rows.specs.Rows.{bareRoad}
-use Rattle.convert.specs.Rows.{fixedRefusal, stepsRefusal, stateCostAt, Ready}
+use Rattle.convert.specs.Rows.{fixedRefusal, stepRefusal, stepsRefusal, stateCostAt, costIn, costRefusal, Ready}
 use Rattle.convert.proofs.Rows.{TraceRow, trace-row}
 
 -- a record's row of w words that begins at `at`, as a call gave it, lies within the record
@@ -46,18 +47,39 @@ row-cost-told width links steps k at w v words wide e h q =
     trace-row width (bareRoad [] links steps) words (suc k) at w wide p q in
     e ∙ sum-same (suc links) _ _ (λ i l. ap (λ (s : NodeState). s .vehicles + s .queue) (row .state i (omega arith)))
 
-pub cost-summed : (width k links steps total : ℕ) (words : List ℕ) → Summed k steps 558345748350 (stateCostAt width links steps words) total → steps ≤ k
-    → total ≡ cost (bareRoad [] links steps) (traceOf width (bareRoad [] links steps) words)
-unfolding cost bareRoad
-cost-summed width k links steps total words s h = summed-ended k steps 558345748350 (stateCostAt width links steps words) total s h
-
 -- v is the number as the code has it, `at` where the cost's words start, and a the answer that is made of v
 pub cost-told : (width links steps at total v : ℕ) (words : List ℕ) (a : Answer) → v ≡ totalFault total (getD words at 0) (getD words (at + 1) 0)
-    → at ≡ traceLength width links steps → total ≡ cost (bareRoad [] links steps) (traceOf width (bareRoad [] links steps) words) → a ≡ refusal v 0 0
-    → a ≡ refusal (costFault width (bareRoad [] links steps) words) 0 0
+    → at ≡ traceLength width links steps → total ≡ costIn width links steps words → a ≡ refusal v 0 0
+    → a ≡ costRefusal width links steps words
 unfolding costFault bareRoad
 cost-told width links steps at total v words a e h t q =
     q ∙ ap (λ (x : ℕ). refusal x 0 0) (e ∙ ap₂ (λ (m n : ℕ). totalFault m (getD words n 0) (getD words (n + 1) 0)) t h)
+
+-- ---- 8 to 12 and the cost, as a loop's invariant: no step before k has a fault, and `total` is the vehicles and queues of the states after them
+
+pub record Scanning (width k : ℕ) (corridor demands words : List ℕ) (links steps total : ℕ) : Type 0 where
+  pub passed : Passed k steps (stepRefusal width corridor demands links words)
+  pub summed : Summed k steps 558345748350 (stateCostAt width links steps words) total
+
+pub scanning-begun : (width : ℕ) (corridor demands words : List ℕ) (links steps : ℕ) → Scanning width 0 corridor demands words links steps 0
+scanning-begun width corridor demands words links steps = record { passed = passed-begun _ _; summed = summed-begun _ _ _ }
+
+module _ (width k : ℕ) (corridor demands words : List ℕ) (links steps total : ℕ) (s : Scanning width k corridor demands words links steps total) where
+  -- a is the answer of step k, t what its test answered, and v the vehicles and queues of state k + 1
+  module _ (h : k < steps) (a : Answer) (t : Bool) (e : a ≡ stepRefusal width corridor demands links words k) (q : t ≡ isRefused a) where
+    pub scanning-more : (v : ℕ) → t ≡ false → (v ≡ stateCostAt width links steps words k) × (v ≤ 558345748350) → Scanning width (k + 1) corridor demands words links steps (total + v)
+    scanning-more v f c =
+        record { passed = passed-told _ _ _ a (s .passed) h e (told-accepted a t q f); summed = summed-more _ _ _ _ _ v (s .summed) h (c .0) (c .1) }
+
+    -- of a step with a refusal no cost is said
+    pub scanning-stop : (v : ℕ) → t ≡ true → (a ≡ stepsRefusal width corridor demands links words steps) × (a ≡ Accepted → v ≡ costIn width links steps words)
+    scanning-stop v r =
+        let refuses = told-refused a t q r in
+        (passed-stop _ _ _ a (s .passed) h e refuses, λ none. absurd (subst Refuses none refuses))
+
+  pub scanning-ended : steps ≤ k → (Accepted ≡ stepsRefusal width corridor demands links words steps) × (Accepted ≡ Accepted → total ≡ costIn width links steps words)
+  unfolding cost bareRoad
+  scanning-ended h = (passed-ended _ _ _ (s .passed) h, λ e. summed-ended _ _ _ _ _ (s .summed) h)
 
 -- ---- 7 to 13, where links and steps are N and K as the code has them
 
@@ -85,15 +107,12 @@ module _ (width : ℕ) (corridor demands words : List ℕ) (links steps : ℕ) (
   judged-steps a b e h q p = or-else-next a b _ _ e h (or-else-stop b _ _ q p) ∙ judged-are
 
   pub judged-cost : (a b c : Answer) → a ≡ fixedRefusal width corridor links steps words → a ≡ Accepted → b ≡ stepsRefusal width corridor demands links words steps → b ≡ Accepted
-      → c ≡ refusal (costFault width (bareRoad [] links steps) words) 0 0 → c ≡ judged width (roadOf corridor demands) words
+      → c ≡ costRefusal width links steps words → c ≡ judged width (roadOf corridor demands) words
   judged-cost a b c e h q p t = or-else-next a c _ _ e h (or-else-next b c _ _ q p t) ∙ judged-are
 
   -- what the scans ask
   pub fixed-asks : CorridorFits corridor links × ((steps ≤ 1440) × Width width × (length words ≡ recordLength width links steps))
   fixed-asks = let q = ready-as in (q .corridorFits, (q .demandsFit .short, q .wide, q .recordFits))
-
-  pub cost-asks : (links ≤ 64) × (steps ≤ 1440) × Width width × (length words ≡ recordLength width links steps)
-  cost-asks = let q = ready-as in (q .corridorFits .few, q .demandsFit .short, q .wide, q .recordFits)
 
 -- an answer as a call told it
 pub told-accepts : (a x : Answer) → a ≡ x → a ≡ Accepted → x ≡ Accepted

@@ -4,13 +4,14 @@ use mathlib.Core.Path.{_≡_}
 use mathlib.Core.List.{List, []}
 use lib.ListN.{length}
 use Rattle.tables.specs.declared.Answer.{Answer}
+use Rattle.tables.specs.Answer.{refusal}
 use Rattle.tables.specs.First.{firstNode, firstPlace}
-use Rattle.road.specs.Run.{stateCost}
+use Rattle.road.specs.Run.{stateCost, cost}
 use Rattle.road.specs.Limits.{Limits}
 use Rattle.lists.specs.Words.{roadOf, Width, traceOf, exitsOf, recordLength}
 use Rattle.lists.specs.Fits.{CorridorFits, DemandsFit}
 use Rattle.convert_rows.specs.Rows.{bareRoad}
-use Rattle.convert.specs.Refusals.{fixedAt, stepAt}
+use Rattle.convert.specs.Refusals.{costFault, fixedAt, stepAt}
 
 -- ---- 7 and 13: they ask nothing of the demands
 
@@ -27,6 +28,18 @@ fixedRefusal width corridor links steps words =
 -- the vehicles and queues of state k + 1 of a record
 abbrev pub stateCostAt : ℕ → ℕ → ℕ → List ℕ → ℕ → ℕ
 stateCostAt width links steps words k = stateCost (suc links) (traceOf width (bareRoad [] links steps) words .state (suc k))
+
+-- those of states 1..K, and that a number is their sum in a record of the right length
+abbrev pub costIn : ℕ → ℕ → ℕ → List ℕ → ℕ
+costIn width links steps words = cost (bareRoad [] links steps) (traceOf width (bareRoad [] links steps) words)
+
+pub record CostKnown (width links steps : ℕ) (words : List ℕ) (total : ℕ) : Type 0 where
+  pub fits : length words ≡ recordLength width links steps
+  pub is : total ≡ costIn width links steps words
+
+-- 13
+abbrev pub costRefusal : ℕ → ℕ → ℕ → List ℕ → Answer
+costRefusal width links steps words = refusal (costFault width (bareRoad [] links steps) words) 0 0
 
 -- ---- 8 to 12
 

@@ -1,4 +1,4 @@
 pub mod Steps
 pub mod Ends
-pub mod Exits
+pub mod Quick
 pub mod Settings

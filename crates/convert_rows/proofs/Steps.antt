@@ -22,6 +22,7 @@ use Rattle.road.proofs.Rules.{sending-le, through-le}
 use Rattle.lists.specs.Words.{nodeAt}
 use Rattle.lists.specs.Rows.{stateIn, flowsIn, exitIn, stepRoad}
 use Rattle.lists.specs.Fits.{JamKept}
+use Rattle.settings.specs.Share.{Permitted}
 use Rattle.record_faults.specs.Records.{fixedFault, stepFault}
 use Rattle.convert_rows.specs.Rows.{bareRoad, fixedFaultIn, stepFaultIn, NodeKept, RowsKept}
 use Rattle.record_faults.proofs.Records.{step-iff}
@@ -68,16 +69,29 @@ unfolding stepFaultIn junction next stepRoad
 step-number-is width corridor demand row after downstream i v g x a f x′ s e j q p n b t =
     e ∙ (λ z. stepFault (j z) (q z) (p z) (moved (j z .state) (n z) (b z) (q z)) (t z))
 
--- ---- as a loop's invariant: no node before i has a fault, and g is what link i gains
+-- ---- of a loop over the nodes: g is what link i gains
+
+pub record Gaining (road : Road) (flows : ℕ → Flows) (i g : ℕ) : Type 0 where
+  pub small : g ≤ 134283264
+  pub is : g ≡ inflow road 0 flows i
+
+pub gaining-begun : (road : Road) (flows : ℕ → Flows) → Gaining road flows 0 0
+unfolding inflow
+gaining-begun road flows = record { small = omega arith; is = refl }
+
+-- x is what node i passes on
+pub gaining-more : (road : Road) (flows : ℕ → Flows) (i x : ℕ) → x ≡ outflow (flows i) (road .split 0 i) → x ≤ 134283264 → Gaining road flows (i + 1) x
+unfolding inflow
+gaining-more road flows i x e b = record { small = b; is = e ∙ sym (ap (λ (m : ℕ). inflow road 0 flows m) (add-one i)) }
+
+-- ---- as a loop's invariant: no node before i has a fault
 
 pub record Stepping (width i links k : ℕ) (corridor demand : List ℕ) (downstream : ℕ) (row after : List ℕ) (g : ℕ) : Type 0 where
   pub passed : Passed i (links + 1) (λ j. refusal (stepFaultIn width corridor demand downstream row after j) k j)
-  pub small : g ≤ 134283264
-  pub gains : g ≡ inflow (stepRoad corridor demand downstream) 0 (flowsIn width row) i
+  pub gaining : Gaining (stepRoad corridor demand downstream) (flowsIn width row) i g
 
 pub stepping-begun : (width links k : ℕ) (corridor demand : List ℕ) (downstream : ℕ) (row after : List ℕ) → Stepping width 0 links k corridor demand downstream row after 0
-unfolding inflow
-stepping-begun width links k corridor demand downstream row after = record { passed = passed-begun _ _; small = omega arith; gains = refl }
+stepping-begun width links k corridor demand downstream row after = record { passed = passed-begun _ _; gaining = gaining-begun _ _ }
 
 -- a is the answer of node i, t what its test answered, and x what it passes on
 pub stepping-more : (width i links k : ℕ) (corridor demand : List ℕ) (downstream : ℕ) (row after : List ℕ) (g x : ℕ) (a : Answer) (t : Bool)
@@ -85,15 +99,27 @@ pub stepping-more : (width i links k : ℕ) (corridor demand : List ℕ) (downst
     → a ≡ refusal (stepFaultIn width corridor demand downstream row after i) k i → t ≡ isRefused a → t ≡ false
     → x ≡ outflow (flowsIn width row i) (getD demand (i * 2 + 1) 0) → x ≤ 134283264
     → Stepping width (i + 1) links k corridor demand downstream row after x
-unfolding inflow stepRoad
+unfolding stepRoad
 stepping-more width i links k corridor demand downstream row after g x a t s h e q f p b =
     record {
       passed = passed-told _ _ _ a (s .passed) h e (told-accepted a t q f);
-      small = b;
-      gains = p ∙ sym (ap (λ (m : ℕ). inflow (stepRoad corridor demand downstream) 0 (flowsIn width row) m) (add-one i));
+      gaining = gaining-more (stepRoad corridor demand downstream) (flowsIn width row) i x p b;
     }
 
--- what `outflow_at` asks of a node with no fault: it passes on no more than its link and its ramp hold
+-- where the flows are permitted no more leaves a link and a ramp than is there
+pub permitted-held : (a : Junction) (f : Flows) → Permitted a f → a .link .fullSpeed ≤ 65536 → (f .main ≤ a .state .vehicles) × (f .ramp ≤ a .state .queue)
+permitted-held a f p h =
+    let sent = p .sent in
+    let offered = p .offered in
+    (omega (arith, sending-le (a .link) (a .state .vehicles) (a .link .fullSpeed) h), omega arith)
+
+-- what `outflow_at` asks of a node of which this is known
+pub held-passes : (width : ℕ) (corridor demand row : List ℕ) (i : ℕ) → NodeKept width corridor demand row i
+    → (flowsIn width row i .main ≤ stateIn width row i .vehicles) × (flowsIn width row i .ramp ≤ stateIn width row i .queue)
+    → (getD demand (i * 2 + 1) 0 ≤ 65536) × (flowsIn width row i .main + flowsIn width row i .ramp ≤ 134283264)
+held-passes width corridor demand row i kept held = (kept .split, omega (arith, held .0, held .1, kept .vehicles, kept .queue))
+
+-- and so of a node with no fault
 pub passes-on : (width : ℕ) (corridor demand : List ℕ) (downstream : ℕ) (row after : List ℕ) (links i k : ℕ) (a : Answer) (t : Bool) → RowsKept width corridor demand row links → i < links + 1
     → a ≡ refusal (stepFaultIn width corridor demand downstream row after i) k i → t ≡ isRefused a → t ≡ false
     → (getD demand (i * 2 + 1) 0 ≤ 65536) × (flowsIn width row i .main + flowsIn width row i .ramp ≤ 134283264)
@@ -102,10 +128,7 @@ passes-on width corridor demand downstream row after links i k a t rows h e q f 
     let kept : NodeKept width corridor demand row i = rows .kept i (omega arith) in
     let none = refusal-accepts (stepFaultIn width corridor demand downstream row after i) k i .0 (sym e ∙ told-accepted a t q f) in
     let permitted = step-iff (junction (stepRoad corridor demand downstream) 0 (stateIn width row) i) (flowsIn width row i) (exitIn width row i) _ (stateIn width after i) .0 none .0 .permitted in
-    let sent = permitted .sent in
-    let offered = permitted .offered in
-    let le = sending-le (nodeAt corridor i .link) (stateIn width row i .vehicles) (nodeAt corridor i .link .fullSpeed) (kept .fullSpeed) in
-    (kept .split, omega (arith, kept .vehicles, kept .queue))
+    held-passes width corridor demand row i kept (permitted-held _ _ permitted (kept .fullSpeed))
 
 -- f and b are a node's flows and split as the code has them
 module _ (width : ℕ) (demand row : List ℕ) (i b : ℕ) (f : flows.Flows) (q : flowsOf f ≡ flowsIn width row i) (e : b ≡ getD demand (i * 2 + 1) 0) where

@@ -1,6 +1,6 @@
 -- Refusals 7 to 13 of files whose words are ready: the cost's words where they stand, and the three scans in turn.
 use Prim.Native.Nat.{ℕ, suc, _+_, _*_}
-use mathlib.Core.List.{List, []}
+use mathlib.Core.List.{List}
 use mathlib.Core.Path.{_≡_, sym, ap, ap₂, subst₂, _∙_}
 use native.Mathlib.Omega.{arith}
 use lib.ListN.{length}
@@ -9,12 +9,10 @@ use Rattle.tables.specs.declared.Answer.the-variants.{Accepted}
 use Rattle.tables.specs.Answer.{refusal}
 use Rattle.tables.proofs.Answers.{Refuses}
 use Rattle.tables.proofs.Tabulate.{tabulate-at}
-use Rattle.road.specs.Run.{cost}
 use Rattle.record_faults.specs.Records.{totalFault}
-use Rattle.lists.specs.Words.{linksOf, stepsOf, roadOf, traceOf, traceLength, recordLength}
-use Rattle.convert.specs.Refusals.{costFault, judged}
-use Rattle.convert_rows.specs.Rows.{bareRoad}
-use Rattle.convert.specs.Rows.{fixedRefusal, stepsRefusal, Ready}
+use Rattle.lists.specs.Words.{linksOf, stepsOf, roadOf, traceLength, recordLength}
+use Rattle.convert.specs.Refusals.{judged}
+use Rattle.convert.specs.Rows.{fixedRefusal, stepsRefusal, costIn, costRefusal, Ready}
 use Rattle.convert.proofs.Answers.{cost-told, judged-fixed, judged-steps, judged-cost}
 use Rattle.payload.specs.File.{blocksFor, payloadWord}
 use Rattle.file_rows.specs.Words.{demandsIn, recordIn}
@@ -30,8 +28,7 @@ cost-inside width links steps at w file e q h = omega (arith, ap (λ (x : ℕ). 
 -- the cost's two words, read where they stand: v is the fault's number as the code has it, and a the answer that is made of it
 pub cost-read : (width links steps at w total v low high : ℕ) (file : List ℕ) (a : Answer) → low ≡ payloadWord file at → high ≡ payloadWord file (at + 1)
     → v ≡ totalFault total low high → at ≡ (steps + 1) * w → w ≡ suc links * width
-    → total ≡ cost (bareRoad [] links steps) (traceOf width (bareRoad [] links steps) (recordIn width links steps file)) → a ≡ refusal v 0 0
-    → a ≡ refusal (costFault width (bareRoad [] links steps) (recordIn width links steps file)) 0 0
+    → total ≡ costIn width links steps (recordIn width links steps file) → a ≡ refusal v 0 0 → a ≡ costRefusal width links steps (recordIn width links steps file)
 cost-read width links steps at w total v low high file a l h e p q t r =
     let is : at ≡ traceLength width links steps = omega (arith, ap (λ (x : ℕ). (steps + 1) * x) q) in
     cost-told width links steps at total v (recordIn width links steps file) a
@@ -60,6 +57,6 @@ module _ (width links steps : ℕ) (corridor demands recorded : List ℕ) (files
 
   pub files-cost : (a b c : Answer) → a ≡ fixedRefusal width corridor links steps (recordIn width links steps recorded) → a ≡ Accepted
       → b ≡ stepsRefusal width corridor (demandsIn links steps demands) links (recordIn width links steps recorded) steps → b ≡ Accepted
-      → c ≡ refusal (costFault width (bareRoad [] links steps) (recordIn width links steps recorded)) 0 0
+      → c ≡ costRefusal width links steps (recordIn width links steps recorded)
       → c ≡ judged width (roadOf corridor (demandsIn links steps demands)) (recordIn width links steps recorded)
   files-cost a b c e h q p t = judged-cost _ _ _ _ links steps own (files .ready .corridorFits .first) (files .ready .demandsFit .first) a b c e h q p t

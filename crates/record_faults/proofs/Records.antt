@@ -18,7 +18,7 @@ use Rattle.road.specs.Values.{linkOf, junctionOf, flowsOf}
 use Rattle.road.proofs.Rules.{flows-eq, state-eq, sending-le}
 use Rattle.settings.specs.Share.{Permitted}
 use Rattle.faults.specs.Lists.{implies}
-use Rattle.record_faults.specs.Records.{sameState, exitKept, unlessThen, fixedFault, nextFault, stepFault, firstFault, joinFault}
+use Rattle.record_faults.specs.Records.{sameState, exitKept, unlessThen, fixedFault, nextFault, stepFault, firstFault}
 use Rattle.faults.proofs.Tests.{le-holds, eq-holds, both-hold, implies-holds, no-fault}
 
 sameState-holds : (x y : NodeState) → (sameState x y ≡ true) ↔ (x ≡ y)
@@ -217,33 +217,6 @@ step-unsaid junction flows said moved after x =
     (unlessThen (leb (flows .ramp) (min (junction .state .queue) (junction .ramp .capacity))) 10
     (unlessThen t 11 (nextFault moved after (junction .ramp .queueLimit))))))
     x
-
--- and the exit may be looked at after all others
-joined : (a b c e s q : Bool)
-    → unlessThen a 8 (unlessThen b 9 (unlessThen c 10 (unlessThen e 11 (unlessThen s 11 (unless q 12)))))
-    ≡ joinFault (unlessThen a 8 (unlessThen b 9 (unlessThen c 10 (unlessThen true 11 (unlessThen s 11 (unless q 12)))))) (unless e 11)
-joined false b c e s q = refl
-joined true false c e s q = refl
-joined true true false e s q = refl
-joined true true true true true true = refl
-joined true true true true true false = refl
-joined true true true true false q = refl
-joined true true true false true true = refl
-joined true true true false true false = refl
-joined true true true false false q = refl
-
-pub step-joined : (junction : Junction) (flows : Flows) (said : Exit) (moved after : NodeState)
-    → stepFault junction flows said moved after
-    ≡ joinFault (stepFault junction flows Unsaid moved after) (unless (exitKept said (exit (flows .main) (junction .split))) 11)
-unfolding stepFault nextFault
-step-joined junction flows said moved after =
-    joined
-    (leb (flows .main) (sending (junction .link) (junction .state .vehicles) (junction .link .fullSpeed)))
-    (leb (outflow flows (junction .split)) (junction .supply))
-    (leb (flows .ramp) (min (junction .state .queue) (junction .ramp .capacity)))
-    (exitKept said (exit (flows .main) (junction .split)))
-    (sameState after moved)
-    (leb (after .queue) (junction .ramp .queueLimit))
 
 -- where 8 to 11 are not due, what is left is 12
 pub step-queue : (junction : Junction) (flows : Flows) (said : Exit) (moved after : NodeState) → Stepped junction flows moved after → ExitRight junction flows said

@@ -1,7 +1,7 @@
 -- The fault of one node by refusals 7 to 12 of document 01, 7 and 11 with the exits of request 04, and that of a cost by 13: its number, or 0.
 use Prim.Native.Nat.{ℕ, zero, suc, _/_, _%_, min}
-use mathlib.Core.Bool.{Bool, true, false, _&&_, cond}
-use lib.Dec.{leb, ltb, eqb}
+use mathlib.Core.Bool.{Bool, true, false, _&&_}
+use lib.Dec.{leb, eqb}
 use Rattle.tables.specs.Answer.{unless}
 use Rattle.road.specs.declared.Exit.{Exit}
 use Rattle.road.specs.declared.Exit.the-variants.{Unsaid, Said}
@@ -52,11 +52,6 @@ stepFault junction flows said moved after =
 abbrev pub firstFault : ℕ → ℕ → ℕ
 firstFault zero second = second
 firstFault (suc x) second = suc x
-
--- a fault that was found without a look at the exit, and that of the exit, which comes just after 10
-abbrev pub joinFault : ℕ → ℕ → ℕ
-joinFault zero exitFault = exitFault
-joinFault (suc x) exitFault = cond (ltb 10 (suc x)) (firstFault exitFault (suc x)) (suc x)
 
 -- ---- 13. cost wrong
 

@@ -18,14 +18,17 @@ use Rattle.road.specs.Step.{exit}
 use Rattle.road.specs.Run.{stateAt, noFlow, run, cost}
 use Rattle.road.proofs.Rules.{exit-of-none}
 use Rattle.road.proofs.Runs.{run-flows, run-last}
-use Rattle.lists.specs.Words.{linksOf, stepsOf, demandsLength, downstreamWord, roadOf, planOf, Width, nodeWord, traceWord, traceWords, lowHigh, recordWords, traceLength, recordLength, recordWidth, widthOf}
+use Rattle.lists.specs.Words.{linksOf, stepsOf, demandsLength, downstreamWord, roadOf, planOf, nodeWord, traceWord, traceWords, lowHigh, recordWords, traceLength, recordLength, recordWidth, widthOf}
+use Rattle.lists.specs.Rows.{stateIn}
 use Rattle.lists.specs.Fits.{CorridorFits, DemandsFit, RowFits}
 use Rattle.lengths.proofs.Sizes.{width-told}
 use Rattle.lists.proofs.Words.{trace-length}
-use Rattle.simulate_rows.specs.Rows.{rowOf, startRow, flowRow, nextRow, rowCost, StepKept, RowsFit, Stepped}
-use Rattle.simulate.specs.Simulate.{Sound, stateRow, stepRow, ranCost, runCost, runWords, Ran, RanAll, simulated}
-use Rattle.simulate_rows.proofs.Rows.{row-length}
-use Rattle.simulate.proofs.Steps.{StepRows, step-rows, flow-row-is, next-row-is, step-kept, state-cost-is, start-row-is}
+use Rattle.link_table.proofs.Table.{table-fits}
+use Rattle.simulate_rows.specs.Rows.{rowOf, restRow, startRow, StepKept, RowsFit, Stepped}
+use Rattle.simulate.specs.Simulate.{Sound, stateRow, stepRow, ranCost, runCost, runWords, RunAt, Ran, RanAll, simulated}
+use Rattle.simulate_rows.proofs.Rows.{row-length, rest-state, row-same}
+use Rattle.simulate_rows.proofs.Steps.{flows-fit}
+use Rattle.simulate.proofs.Steps.{StepRows, step-rows, step-kept, record-row-is, next-row-is, next-cost-is, start-row-is}
 
 pub record Inside (demands plan : List ℕ) (links at : ℕ) : Type 0 where
   pub planRow : at + (links + 1) * 2 ≤ length plan
@@ -33,9 +36,8 @@ pub record Inside (demands plan : List ℕ) (links at : ℕ) : Type 0 where
 
 -- ---- the corridor's start, as the code has it
 
-pub started : (width : ℕ) (corridor demands plan : List ℕ) (links : ℕ) (state : List ℕ) → links ≡ linksOf corridor → state ≡ startRow width corridor links
-    → state ≡ stateRow width corridor demands plan 0
-started width corridor demands plan links state n e = e ∙ ap (λ (x : ℕ). startRow width corridor x) n ∙ start-row-is width corridor demands plan
+pub started : (corridor demands plan : List ℕ) (links : ℕ) (state : List ℕ) → links ≡ linksOf corridor → state ≡ startRow corridor links → state ≡ stateRow 2 corridor demands plan 0
+started corridor demands plan links state n e = e ∙ ap (startRow corridor) n ∙ start-row-is corridor demands plan
 
 pub corridor-fits : (corridor demands plan : List ℕ) (links : ℕ) → Sound corridor demands plan → links ≡ linksOf corridor → CorridorFits corridor links
 corridor-fits corridor demands plan links sound n = subst (λ (x : ℕ). CorridorFits corridor x) (sym n) (sound .corridorFits)
@@ -55,17 +57,22 @@ two-after g d m a b e h =
     ∙ set-at (g ++ (a ∷ [])) y [] b (m + 1) (length-append g (a ∷ []) ∙ ap (λ (k : ℕ). k + 1) e)
     ∙ append-snoc g a (b ∷ [])
 
+-- the state that a run keeps, as the code has N
+pub state-lent : (corridor demands plan : List ℕ) (k links : ℕ) (table state room : List ℕ) → RunAt corridor demands plan k table state room → links ≡ linksOf corridor → RowFits 2 state links
+unfolding stateRow
+state-lent corridor demands plan k links table state room a n = ap length (a .reached) ∙ row-length 2 (linksOf corridor) _ _ _ ∙ ap (λ (x : ℕ). suc x * 2) (sym n)
+
 -- ---- one step, as the code lends its rows; `at` is where row k of the plan starts, and 1 + at row k of the demands
 
-module _ (width : ℕ) (wide : Width width) (corridor demands plan : List ℕ) (k links at : ℕ) (sound : Sound corridor demands plan) (n : links ≡ linksOf corridor) (h : k < stepsOf demands) (e : at ≡ k * ((links + 1) * 2)) where
+module _ (corridor demands plan : List ℕ) (k links at : ℕ) (sound : Sound corridor demands plan) (n : links ≡ linksOf corridor) (h : k < stepsOf demands) (e : at ≡ k * ((links + 1) * 2)) where
   abbrev demandRow : List ℕ
   demandRow = take (1 + at + (links + 1) * 2 - (1 + at)) (drop (1 + at) demands)
 
   abbrev planRow : List ℕ
   planRow = take (at + (links + 1) * 2 - at) (drop at plan)
 
-  step-lent : StepRows width wide corridor demands plan k demandRow planRow
-  step-lent = step-rows width wide corridor demands plan k ((links + 1) * 2) (1 + at) at (omega arith) (omega arith) e
+  step-lent : StepRows corridor demands plan k demandRow planRow
+  step-lent = step-rows corridor demands plan k ((links + 1) * 2) (1 + at) at (omega arith) (omega arith) e
 
   within : at + (links + 1) * 2 ≤ stepsOf demands * (suc (linksOf corridor) * 2)
   within =
@@ -92,53 +99,40 @@ module _ (width : ℕ) (wide : Width width) (corridor demands plan : List ℕ) (
   plan-row-fits : RowFits 2 planRow links
   plan-row-fits = part-length at ((links + 1) * 2) (length plan) plan (omega (arith, within, sound .planFits)) refl ∙ omega arith
 
-  module _ (state : List ℕ) (s : state ≡ stateRow width corridor demands plan k) where
-    step-asks : (j : ℕ) → j ≤ links → StepKept width corridor demandRow planRow state j
+  module _ (table state room : List ℕ) (at-k : RunAt corridor demands plan k table state room) where
+    step-asks : (j : ℕ) → j ≤ links → StepKept table demandRow planRow state j
     step-asks j l =
-        subst (λ (x : List ℕ). StepKept width corridor demandRow planRow x j) (sym s)
-        (step-kept width wide corridor demands plan k demandRow planRow step-lent (sound .limits) (sound .bounded) h j (omega arith))
+        subst (λ (x : List ℕ). StepKept table demandRow planRow x j) (sym (at-k .reached))
+        (step-kept corridor demands plan k table demandRow planRow (at-k .tabled) step-lent (sound .limits) (sound .bounded) h j (omega arith))
 
-    state-row-fits : RowFits width state links
-    unfolding stateRow
-    state-row-fits = ap length s ∙ row-length width (linksOf corridor) _ _ _ ∙ ap (λ (x : ℕ). suc x * width) (sym n)
+    pub rows-fit : RowsFit table demandRow planRow state links × RowFits 2 room links
+    rows-fit = (
+      record {
+        few = omega (arith, sound .corridorFits .few);
+        tableFits = table-fits corridor (linksOf corridor) table (at-k .tabled) ∙ ap (λ (x : ℕ). suc x * 8) (sym n);
+        demandFits = demand-row-fits;
+        planFits = plan-row-fits;
+        stateFits = state-lent corridor demands plan k links table state room at-k n;
+        kept = step-asks;
+      },
+      at-k .room ∙ ap (λ (x : ℕ). suc x * 2) (sym n),
+    )
 
-    pub rows-fit : RowsFit width corridor demandRow planRow state links
-    rows-fit =
-        record {
-          corridorFits = corridor-fits corridor demands plan links sound n;
-          demandFits = demand-row-fits;
-          planFits = plan-row-fits;
-          stateFits = state-row-fits;
-          wide = wide;
-          kept = step-asks;
-        }
-
-    -- row, after and total are what the step gave
-    pub step-ran : (steps downstream : ℕ) → steps ≡ stepsOf demands → downstream ≡ downstreamWord demands links steps k → (row after : List ℕ) (total : ℕ)
-        → Stepped width corridor links demandRow downstream planRow state row after total → Ran width corridor demands plan k row after total
+    -- flows, row, after and total are what the step gave
+    pub step-ran : (width steps downstream : ℕ) → steps ≡ stepsOf demands → downstream ≡ downstreamWord demands links steps k → (passed row after : List ℕ) (total : ℕ)
+        → Stepped width table links demandRow downstream planRow state passed row after total → Ran width corridor demands plan k passed row after total
     unfolding roadOf
-    step-ran steps downstream q d row after total g = record { written = written; moved = moved; adds = adds; low = g .low }
-      where
-        written : row ≡ stepRow width corridor demands plan k
-        written =
-            g .written
-            ∙ ap (λ (x : ℕ). flowRow width corridor x demandRow downstream planRow state) n
-            ∙ ap (λ (x : List ℕ). flowRow width corridor (linksOf corridor) demandRow downstream planRow x) s
-            ∙ flow-row-is width wide corridor demands plan k demandRow planRow step-lent downstream (d ∙ ap₂ (λ (x y : ℕ). downstreamWord demands x y k) n q)
-
-        moved : after ≡ stateRow width corridor demands plan (suc k)
-        moved =
-            g .moved
-            ∙ ap (λ (x : ℕ). nextRow width x demandRow row) n
-            ∙ ap (λ (x : List ℕ). nextRow width (linksOf corridor) demandRow x) written
-            ∙ next-row-is width wide corridor demands plan k demandRow planRow step-lent
-
-        adds : total ≡ ranCost corridor demands plan (suc k)
-        adds =
-            g .adds
-            ∙ ap (λ (x : ℕ). rowCost width x after) n
-            ∙ ap (λ (x : List ℕ). rowCost width (linksOf corridor) x) moved
-            ∙ state-cost-is width wide corridor demands plan (suc k)
+    step-ran width steps downstream q d passed row after total given =
+        let g = subst (λ (x : List ℕ). Stepped width table (linksOf corridor) demandRow downstream planRow x passed row after total) (at-k .reached)
+        (subst (λ (x : ℕ). Stepped width table x demandRow downstream planRow state passed row after total) n given) in
+        let beyond : downstream ≡ roadOf corridor demands .downstream k = d ∙ ap₂ (λ (x y : ℕ). downstreamWord demands x y k) n q in
+        record {
+          written = g .gives .written ∙ record-row-is corridor demands plan k table demandRow planRow (at-k .tabled) step-lent downstream beyond passed (g .passed) width;
+          moved = g .gives .moves ∙ next-row-is corridor demands plan k table demandRow planRow (at-k .tabled) step-lent downstream beyond passed (g .passed);
+          adds = g .gives .adds ∙ next-cost-is corridor demands plan k table demandRow planRow (at-k .tabled) step-lent downstream beyond passed (g .passed);
+          low = g .gives .low;
+          room = flows-fit table (linksOf corridor) demandRow downstream planRow _ passed (g .passed);
+        }
 
 -- the row lent for a step, as the code has N
 pub row-lent : (width : ℕ) (corridor row : List ℕ) (links : ℕ) → links ≡ linksOf corridor → RowFits width row (linksOf corridor) → RowFits width row links
@@ -162,47 +156,55 @@ row-wide width corridor links w n q = q ∙ ap (λ (x : ℕ). suc x * width) n
 
 -- ---- as a loop's invariant: the state is state k, and the total its cost so far
 
-pub record RanTo (width : ℕ) (corridor demands plan : List ℕ) (k : ℕ) (state : List ℕ) (total : ℕ) : Type 0 where
+pub record RanTo (corridor demands plan : List ℕ) (k : ℕ) (table state room : List ℕ) (total : ℕ) : Type 0 where
   pub bound : k ≤ stepsOf demands
-  pub reached : state ≡ stateRow width corridor demands plan k
+  pub keeps : RunAt corridor demands plan k table state room
   pub sums : total ≡ sum k (λ h. ranCost corridor demands plan (suc h))
   pub low : total ≤ k * 558345748350
 
-module _ (width : ℕ) (corridor demands plan : List ℕ) where
-  pub ran-begun : (state : List ℕ) → state ≡ stateRow width corridor demands plan 0 → RanTo width corridor demands plan 0 state 0
-  ran-begun state e = record { bound = omega arith; reached = e; sums = sym (sum-none _); low = omega arith }
+module _ (corridor demands plan table : List ℕ) where
+  pub ran-begun : (state room : List ℕ) → RunAt corridor demands plan 0 table state room → RanTo corridor demands plan 0 table state room 0
+  ran-begun state room e = record { bound = omega arith; keeps = e; sums = sym (sum-none _); low = omega arith }
 
-  pub ran-more : (k : ℕ) (state after : List ℕ) (total more : ℕ) → RanTo width corridor demands plan k state total → k < stepsOf demands
-      → (row : List ℕ) → Ran width corridor demands plan k row after more
-      → RanTo width corridor demands plan (k + 1) after (total + more)
-  ran-more k state after total more ran h row more-ran =
+  pub ran-more : (width k : ℕ) (state after room room′ row : List ℕ) (total more : ℕ) → RanTo corridor demands plan k table state room total → k < stepsOf demands
+      → Ran width corridor demands plan k room′ row after more → RanTo corridor demands plan (k + 1) table after room′ (total + more)
+  ran-more width k state after room room′ row total more ran h more-ran =
       record {
         bound = omega arith;
-        reached = more-ran .moved ∙ ap (λ (j : ℕ). stateRow width corridor demands plan j) (sym (add-one k));
+        keeps = record { tabled = ran .keeps .tabled; reached = more-ran .moved ∙ ap (stateRow 2 corridor demands plan) (sym (add-one k)); room = more-ran .room };
         sums = omega (arith, ran .sums, more-ran .adds, sum-more k (λ j. ranCost corridor demands plan (suc j)));
         low = omega (arith, ran .low, more-ran .low);
       }
 
-  -- all steps are done
-  ran-all : (k : ℕ) (state : List ℕ) (total : ℕ) → RanTo width corridor demands plan k state total → stepsOf demands ≤ k → k ≡ stepsOf demands
-  ran-all k state total ran h = omega (arith, ran .bound)
+  module _ (k : ℕ) (state room : List ℕ) (total : ℕ) (ran : RanTo corridor demands plan k table state room total) (h : stepsOf demands ≤ k) where
+    -- all steps are done
+    ran-all : k ≡ stepsOf demands
+    ran-all = omega (arith, ran .bound)
 
-  pub ran-state : (k : ℕ) (state : List ℕ) (total : ℕ) → RanTo width corridor demands plan k state total → stepsOf demands ≤ k → state ≡ stateRow width corridor demands plan (stepsOf demands)
-  ran-state k state total ran h = ran .reached ∙ ap (λ (j : ℕ). stateRow width corridor demands plan j) (ran-all k state total ran h)
+    pub ran-state : state ≡ stateRow 2 corridor demands plan (stepsOf demands)
+    ran-state = ran .keeps .reached ∙ ap (stateRow 2 corridor demands plan) ran-all
 
-  pub ran-cost : (k : ℕ) (state : List ℕ) (total : ℕ) → RanTo width corridor demands plan k state total → stepsOf demands ≤ k → total ≡ runCost corridor demands plan
-  unfolding runCost cost run ranCost roadOf
-  ran-cost k state total ran h = ran .sums ∙ ap (λ (j : ℕ). sum j (λ m. ranCost corridor demands plan (suc m))) (ran-all k state total ran h)
+    pub ran-cost : total ≡ runCost corridor demands plan
+    unfolding runCost cost run ranCost roadOf
+    ran-cost = ran .sums ∙ ap (λ (j : ℕ). sum j (λ m. ranCost corridor demands plan (suc m))) ran-all
 
-  pub state-row-even : (k : ℕ) (state row : List ℕ) → state ≡ stateRow width corridor demands plan k → RowFits width row (linksOf corridor) → length state ≡ length row
-  unfolding stateRow
-  state-row-even k state row e q = ap length e ∙ row-length width (linksOf corridor) _ _ _ ∙ sym q
+    -- the last state as a row of the record, as its call gave it
+    pub ran-last : (width links : ℕ) (row : List ℕ) → links ≡ linksOf corridor → row ≡ restRow width links (stateIn 2 state) → row ≡ stateRow width corridor demands plan (stepsOf demands)
+    unfolding stateRow
+    ran-last width links row n e =
+        e
+        ∙ ap (λ (x : ℕ). restRow width x (stateIn 2 state)) n
+        ∙ row-same width (linksOf corridor) _ _ _ _ _ _
+        (λ i b. ap (λ (x : List ℕ). stateIn 2 x i) ran-state ∙ rest-state (linksOf corridor) _ i b) (λ i b. refl) (λ i b. refl)
 
-  pub state-rows-even : (k j : ℕ) (state other : List ℕ) → state ≡ stateRow width corridor demands plan k → other ≡ stateRow width corridor demands plan j → length state ≡ length other
-  unfolding stateRow
-  state-rows-even k j state other e q =
-      state-row-even k state other e (ap length q ∙ row-length width (linksOf corridor) _ _ _)
+-- a state and the room for flows keep their lengths
+pub state-even : (corridor demands plan : List ℕ) (k j : ℕ) (table state room table′ state′ room′ : List ℕ) → RunAt corridor demands plan k table state room → RunAt corridor demands plan j table′ state′ room′
+    → (length state ≡ length state′) × (length room ≡ length room′)
+unfolding stateRow
+state-even corridor demands plan k j table state room table′ state′ room′ a b =
+    (ap length (a .reached) ∙ row-length 2 (linksOf corridor) _ _ _ ∙ sym (ap length (b .reached) ∙ row-length 2 (linksOf corridor) _ _ _), a .room ∙ sym (b .room))
 
+module _ (width : ℕ) (corridor demands plan : List ℕ) where
   -- ---- the record's rows, row by row
 
   abbrev pub runWord : ℕ → ℕ → ℕ

@@ -1,4 +1,4 @@
--- A step on its rows is a step of the run: from the row of state k to the record's row k and the row of state k + 1.
+-- A step on its rows is a step of the run: from state k to the record's row k and to state k + 1.
 use Prim.Native.Nat.{ℕ, zero, suc, _+_, _-_, _*_, _≤_, _<_}
 use mathlib.Core.Bool.{cond}
 use mathlib.Core.List.{List, []}
@@ -8,18 +8,21 @@ use lib.Dec.{ltb}
 use lib.ListN.{getD, take, drop}
 use Rattle.tables.proofs.Part.{part-at}
 use Rattle.tables.proofs.Sum.{sum-same}
-use Rattle.road.specs.Corridor.{NodeState, Flows, Road, Plan}
+use Rattle.road.specs.Corridor.{Link, NodeState, Flows, Road, Plan}
 use Rattle.road.specs.Step.{Junction, exit, receiving, flowsWith, outflow, moved}
-use Rattle.road.specs.Run.{supply, junction, inflow, next, planFlows, stateAt, noFlow}
+use Rattle.road.specs.Run.{supply, junction, inflow, next, planFlows, stateAt, stateCost}
 use Rattle.road.specs.Limits.{Limits, Bounded}
 use Rattle.road.proofs.Runs.{link-tops, run-jam}
 use Rattle.road.proofs.Same.{junction-same, next-same}
 use Rattle.road.proofs.Sizes.{run-state-fits}
-use Rattle.lists.specs.Words.{Width, linksOf, stepsOf, nodeAt, demandsWord, roadOf, planOf}
-use Rattle.lists.specs.Rows.{stateIn, flowsIn, stepRoad}
-use Rattle.simulate_rows.specs.Rows.{startRow, rowFlows, rowExit, flowRow, nextRow, rowCost, StepKept}
+use Rattle.lists.specs.Words.{linksOf, stepsOf, nodeAt, demandsWord, roadOf, planOf}
+use Rattle.lists.specs.Rows.{stateIn, stepRoad}
+use Rattle.link_table.specs.Table.{tableOf}
+use Rattle.link_table.proofs.Table.{link-told, junction-told}
+use Rattle.simulate_rows.specs.Rows.{startRow, rowFlows, flowRow, passedIn, recordRow, nextIn, nextRow, StepKept}
 use Rattle.simulate.specs.Simulate.{stateRow, stepRow, ranCost}
-use Rattle.simulate_rows.proofs.Rows.{row-state, row-flows, row-same}
+use Rattle.simulate_rows.proofs.Rows.{rest-state, row-same}
+use Rattle.simulate_rows.proofs.Steps.{flows-told}
 
 module _ (corridor demands : List ℕ) (k : ℕ) where
   -- row k of the demands, as the code has it
@@ -67,7 +70,7 @@ module _ (corridor demands : List ℕ) (k : ℕ) where
         ap (λ (x : ℕ). moved (state i) x (getD demand (i * 2 + 0) 0) (flows i)) (step-inflow lane flows i h)
         ∙ ap (λ (x : ℕ). moved (state i) (inflow (roadOf corridor demands) k flows i) x (flows i)) (row .arrivals i h)
 
-module _ (width : ℕ) (wide : Width width) (corridor demands words : List ℕ) (k : ℕ) where
+module _ (corridor demands words : List ℕ) (k : ℕ) where
   abbrev road : Road
   road = roadOf corridor demands
 
@@ -97,48 +100,21 @@ module _ (width : ℕ) (wide : Width width) (corridor demands words : List ℕ) 
           ∙ ap (λ (n : ℕ). getD words (n + (i * 2 + j)) 0) q
           ∙ ap (λ (n : ℕ). getD words (k * n + (i * 2 + j)) 0) width
 
-  module _ (demand rates : List ℕ) (rows : StepRows demand rates) where
-    -- the flows from the row of state k
-    step-flows : (downstream : ℕ) → downstream ≡ road .downstream k → (i : ℕ) → i ≤ linksOf corridor
-        → rowFlows width corridor demand downstream rates (stateRow width corridor demands words k) i ≡ planFlows road plan k (stateAt road plan k) i
-    unfolding rowFlows planFlows roadOf stateRow
-    step-flows downstream d i h =
-        ap (λ (x : Junction). flowsWith x (getD rates (i * 2 + 0) 0) (getD rates (i * 2 + 1) 0))
-        (step-junction corridor demands k demand (rows .demand-row) downstream d (stateIn width (stateRow width corridor demands words k)) i h
-        ∙ junction-same road k (stateIn width (stateRow width corridor demands words k)) (stateAt road plan k) i (λ j l. row-state width wide (linksOf corridor) (stateAt road plan k) (λ j. noFlow) (λ j. 0) j l) h)
-        ∙ ap (λ (c : ℕ). flowsWith (junction road k (stateAt road plan k) i) c (getD rates (i * 2 + 1) 0)) (rows .rate i h)
-        ∙ ap (λ (v : ℕ). flowsWith (junction road k (stateAt road plan k) i) (plan .rate k i) v) (rows .limit i h)
+  -- the state that the run keeps
+  state-told : (i : ℕ) → i ≤ linksOf corridor → stateIn 2 (stateRow 2 corridor demands words k) i ≡ stateAt road plan k i
+  unfolding stateRow
+  state-told i h = rest-state (linksOf corridor) (stateAt road plan k) i h
 
-    pub flow-row-is : (downstream : ℕ) → downstream ≡ road .downstream k
-        → flowRow width corridor (linksOf corridor) demand downstream rates (stateRow width corridor demands words k) ≡ stepRow width corridor demands words k
-    unfolding flowRow rowExit stateRow stepRow roadOf
-    flow-row-is downstream d =
-        row-same width (linksOf corridor) _ _ _ _ _ _ (λ i h. row-state width wide (linksOf corridor) (stateAt road plan k) (λ j. noFlow) (λ j. 0) i h) (step-flows downstream d)
-        (λ i h z. exit (step-flows downstream d i h z .main) (rows .demand-row .split i h z))
-
-    pub next-row-is : nextRow width (linksOf corridor) demand (stepRow width corridor demands words k) ≡ stateRow width corridor demands words (suc k)
-    unfolding nextRow stateAt roadOf stateRow stepRow
-    next-row-is =
-        row-same width (linksOf corridor) _ _ _ _ _ _
-        (λ i h.
-        step-next corridor demands k demand (rows .demand-row) 0 [] (stateIn width (stepRow width corridor demands words k)) (flowsIn width (stepRow width corridor demands words k)) i h
-        ∙ next-same road k (stateIn width (stepRow width corridor demands words k)) (stateAt road plan k) (flowsIn width (stepRow width corridor demands words k)) (planFlows road plan k (stateAt road plan k)) i
-        (λ j l. row-state width wide (linksOf corridor) (stateAt road plan k) _ _ j l)
-        (λ j l. row-flows width wide (linksOf corridor) (stateAt road plan k) _ _ j l)
-        h)
-        (λ i h. refl)
-        (λ i h. refl)
-
-    -- within limits and bounds the row of state k keeps what a step asks
-    pub step-kept : Limits road → Bounded road plan → k < stepsOf demands → (i : ℕ) → i ≤ linksOf corridor → StepKept width corridor demand rates (stateRow width corridor demands words k) i
-    unfolding roadOf stateRow
+  module _ (table demand rates : List ℕ) (tabled : table ≡ tableOf corridor (linksOf corridor)) (rows : StepRows demand rates) where
+    -- within limits and bounds state k keeps what a step asks
+    pub step-kept : Limits road → Bounded road plan → k < stepsOf demands → (i : ℕ) → i ≤ linksOf corridor → StepKept table demand rates (stateRow 2 corridor demands words k) i
+    unfolding roadOf
     step-kept limits bounded hk i hi =
-        let s : stateIn width (stateRow width corridor demands words k) i ≡ stateAt road plan k i = row-state width wide (linksOf corridor) (stateAt road plan k) (λ j. noFlow) (λ j. 0) i hi in
-        let n : stateIn width (stateRow width corridor demands words k) i .vehicles ≡ stateAt road plan k i .vehicles = ap (λ (x : NodeState). x .vehicles) s in
-        let l : stateIn width (stateRow width corridor demands words k) i .queue ≡ stateAt road plan k i .queue = ap (λ (x : NodeState). x .queue) s in
+        let n : stateIn 2 (stateRow 2 corridor demands words k) i .vehicles ≡ stateAt road plan k i .vehicles = ap (λ (x : NodeState). x .vehicles) (state-told i hi) in
+        let l : stateIn 2 (stateRow 2 corridor demands words k) i .queue ≡ stateAt road plan k i .queue = ap (λ (x : NodeState). x .queue) (state-told i hi) in
         let fits = run-state-fits road limits plan k i (omega arith) hi in
         record {
-          jam = omega (arith, run-jam road limits plan k i (omega arith) hi);
+          jam = omega (arith, run-jam road limits plan k i (omega arith) hi, ap (λ (x : Link). x .jam) (link-told corridor (linksOf corridor) table tabled i hi));
           vehicles = omega (arith, fits .vehicles);
           queue = omega (arith, fits .queue);
           arrivals = omega (arith, rows .demand-row .arrivals i hi, limits .demand k i hk hi .arrivals);
@@ -146,14 +122,40 @@ module _ (width : ℕ) (wide : Width width) (corridor demands words : List ℕ) 
           limit = omega (arith, rows .limit i hi, bounded k i hk hi .limit, link-tops road limits i hi .fullSpeed);
         }
 
--- the sum of its row is the cost of state k
-pub state-cost-is : (width : ℕ) (wide : Width width) (corridor demands words : List ℕ) (k : ℕ)
-    → rowCost width (linksOf corridor) (stateRow width corridor demands words k) ≡ ranCost corridor demands words k
-unfolding rowCost stateRow ranCost
-state-cost-is width wide corridor demands words k =
-    sum-same (suc (linksOf corridor)) _ _ (λ i h. ap (λ (x : NodeState). x .vehicles + x .queue) (row-state width wide (linksOf corridor) _ _ _ i (omega arith)))
+    module _ (downstream : ℕ) (d : downstream ≡ road .downstream k) (passed : List ℕ)
+        (e : passed ≡ flowRow table (linksOf corridor) demand downstream rates (stateRow 2 corridor demands words k)) where
+      -- the flows from state k, as the code has them
+      step-flows : (i : ℕ) → i ≤ linksOf corridor → passedIn passed i ≡ planFlows road plan k (stateAt road plan k) i
+      unfolding rowFlows planFlows roadOf
+      step-flows i h =
+          flows-told table (linksOf corridor) demand downstream rates (stateRow 2 corridor demands words k) passed e i h
+          ∙ ap (λ (x : Junction). flowsWith x (getD rates (i * 2 + 0) 0) (getD rates (i * 2 + 1) 0))
+          (junction-told corridor (linksOf corridor) table tabled demand downstream (stateIn 2 (stateRow 2 corridor demands words k)) refl i h
+          ∙ step-junction corridor demands k demand (rows .demand-row) downstream d (stateIn 2 (stateRow 2 corridor demands words k)) i h
+          ∙ junction-same road k (stateIn 2 (stateRow 2 corridor demands words k)) (stateAt road plan k) i state-told h)
+          ∙ ap (λ (c : ℕ). flowsWith (junction road k (stateAt road plan k) i) c (getD rates (i * 2 + 1) 0)) (rows .rate i h)
+          ∙ ap (λ (v : ℕ). flowsWith (junction road k (stateAt road plan k) i) (plan .rate k i) v) (rows .limit i h)
 
--- the corridor's start is the row of state 0
-pub start-row-is : (width : ℕ) (corridor demands words : List ℕ) → startRow width corridor (linksOf corridor) ≡ stateRow width corridor demands words 0
+      pub record-row-is : (width : ℕ) → recordRow width (linksOf corridor) demand (stateRow 2 corridor demands words k) passed ≡ stepRow width corridor demands words k
+      unfolding recordRow stepRow roadOf
+      record-row-is width =
+          row-same width (linksOf corridor) _ _ _ _ _ _ state-told step-flows (λ i h z. exit (step-flows i h z .main) (rows .demand-row .split i h z))
+
+      next-is : (i : ℕ) → i ≤ linksOf corridor → nextIn demand (stateRow 2 corridor demands words k) passed i ≡ stateAt road plan (suc k) i
+      unfolding nextIn stateAt roadOf
+      next-is i h =
+          step-next corridor demands k demand (rows .demand-row) 0 [] (stateIn 2 (stateRow 2 corridor demands words k)) (passedIn passed) i h
+          ∙ next-same road k (stateIn 2 (stateRow 2 corridor demands words k)) (stateAt road plan k) (passedIn passed) (planFlows road plan k (stateAt road plan k)) i state-told step-flows h
+
+      pub next-row-is : nextRow (linksOf corridor) demand (stateRow 2 corridor demands words k) passed ≡ stateRow 2 corridor demands words (suc k)
+      unfolding nextRow stateRow
+      next-row-is = row-same 2 (linksOf corridor) _ _ _ _ _ _ next-is (λ i h. refl) (λ i h. refl)
+
+      pub next-cost-is : stateCost (suc (linksOf corridor)) (nextIn demand (stateRow 2 corridor demands words k) passed) ≡ ranCost corridor demands words (suc k)
+      unfolding ranCost
+      next-cost-is = sum-same (suc (linksOf corridor)) _ _ (λ i h. ap (λ (x : NodeState). x .vehicles + x .queue) (next-is i (omega arith)))
+
+-- the corridor's start is state 0
+pub start-row-is : (corridor demands words : List ℕ) → startRow corridor (linksOf corridor) ≡ stateRow 2 corridor demands words 0
 unfolding startRow stateAt roadOf stateRow
-start-row-is width corridor demands words = refl
+start-row-is corridor demands words = refl

@@ -12,7 +12,8 @@ use Rattle.road.specs.Corridor.{NodeState, Flows}
 use Rattle.road.specs.Step.{exit}
 use Rattle.road.specs.Run.{planFlows, stateAt, run, stateCost, cost}
 use Rattle.lists.specs.Words.{linksOf, stepsOf, demandsWord, roadOf, planOf, traceWords, recordWords, demandsLength, planLength, widthOf}
-use Rattle.lists.specs.Fits.{CorridorFits}
+use Rattle.lists.specs.Fits.{CorridorFits, RowFits}
+use Rattle.link_table.specs.Table.{tableOf}
 use Rattle.lengths.specs.Lengths.{recordSized, sizes}
 use Rattle.list_scans.specs.Refusals.{ranges, planBounds}
 use Rattle.simulate_rows.specs.Rows.{rowOf, restRow}
@@ -63,7 +64,7 @@ ranFlows corridor demands plan k = planFlows (roadOf corridor demands) (planOf (
 abbrev pub ranExit : List ℕ → List ℕ → List ℕ → ℕ → ℕ → ℕ
 ranExit corridor demands plan k i = exit (ranFlows corridor demands plan k i .main) (demandsWord demands (linksOf corridor) k i 1)
 
--- the row of state k, with no flows yet
+-- the row of state k, with no flow: at a width of 2 the state that a run keeps, at the record's the last row of it
 unfoldable pub stateRow : ℕ → List ℕ → List ℕ → List ℕ → ℕ → List ℕ
 stateRow width corridor demands plan k = restRow width (linksOf corridor) (ranState corridor demands plan k)
 
@@ -83,12 +84,19 @@ runCost corridor demands plan = cost (roadOf corridor demands) (run (roadOf corr
 unfoldable pub runWords : ℕ → List ℕ → List ℕ → List ℕ → List ℕ
 runWords width corridor demands plan = traceWords width (roadOf corridor demands) (run (roadOf corridor demands) (planOf (roadOf corridor demands) plan))
 
--- what step k makes of state k: the record's row, the next state's row, and that state's vehicles and queues
-pub record Ran (width : ℕ) (corridor demands plan : List ℕ) (k : ℕ) (row after : List ℕ) (total : ℕ) : Type 0 where
+-- what a run keeps before step k: the table of its links, state k, and room for the flows of a step
+pub record RunAt (corridor demands plan : List ℕ) (k : ℕ) (table state flows : List ℕ) : Type 0 where
+  pub tabled : table ≡ tableOf corridor (linksOf corridor)
+  pub reached : state ≡ stateRow 2 corridor demands plan k
+  pub room : RowFits 2 flows (linksOf corridor)
+
+-- what step k makes of state k: the record's row, the next state, that state's vehicles and queues, and the room as long as before
+pub record Ran (width : ℕ) (corridor demands plan : List ℕ) (k : ℕ) (flows row after : List ℕ) (total : ℕ) : Type 0 where
   pub written : row ≡ stepRow width corridor demands plan k
-  pub moved : after ≡ stateRow width corridor demands plan (suc k)
+  pub moved : after ≡ stateRow 2 corridor demands plan (suc k)
   pub adds : total ≡ ranCost corridor demands plan (suc k)
   pub low : total ≤ 558345748350
+  pub room : RowFits 2 flows (linksOf corridor)
 
 -- what all steps make: the words of all states, and their cost
 pub record RanAll (width : ℕ) (corridor demands plan states : List ℕ) (total : ℕ) : Type 0 where

@@ -1,3 +1,3 @@
 pub mod Rows
-pub mod Wide
+pub mod Steps
 pub mod Sets

@@ -1,5 +1,6 @@
--- One step on its rows alone: the record's row of a state, the row of the next state, and what each asks of the words that it is given.
-use Prim.Native.Nat.{ℕ, suc, _+_, _*_, _≤_}
+-- One step on its rows alone: the flows from a state, the record's row, the next state, and what each asks of the words that it is given. A state
+-- has two words a node, n and l, and so have flows, f and r: neither depends on the record's kind.
+use Prim.Native.Nat.{ℕ, zero, suc, _+_, _*_, _≤_}
 use mathlib.Core.Bool.{cond}
 use mathlib.Core.Path.{_≡_}
 use mathlib.Core.List.{List, []}
@@ -7,17 +8,18 @@ use lib.Dec.{ltb}
 use lib.ListN.{getD, set}
 use Rattle.tables.specs.Grid.{rowWords}
 use Rattle.road.specs.Corridor.{NodeState, Flows}
-use Rattle.road.specs.Step.{exit, flowsWith}
+use Rattle.road.specs.Step.{Junction, exit, flowsWith, outflow, moved}
 use Rattle.road.specs.Run.{junction, next, noFlow, stateCost}
-use Rattle.lists.specs.Words.{Width, nodeAt, nodeWord}
-use Rattle.lists.specs.Rows.{stateIn, flowsIn, stepRoad}
-use Rattle.lists.specs.Fits.{CorridorFits, RowFits}
+use Rattle.lists.specs.Words.{nodeAt, nodeWord}
+use Rattle.lists.specs.Rows.{stateIn, stepRoad}
+use Rattle.lists.specs.Fits.{RowFits}
+use Rattle.link_table.specs.Table.{linkIn, rampIn, tableRoad}
 
--- a row of nodes 0..N with these states, flows and off-ramp flows; these have a word where the width is 5
+-- a row of nodes 0..N with these states, flows and off-ramp flows; flows have words where the width is 4, off-ramp flows where it is 5
 unfoldable pub rowOf : ℕ → ℕ → (ℕ → NodeState) → (ℕ → Flows) → (ℕ → ℕ) → List ℕ
 rowOf width links state flows off = rowWords width (suc links) (λ i. nodeWord (state i) (flows i) (off i))
 
--- a row of a state before its step: no flow, and nothing leaves
+-- a row of a state: no flow, and nothing leaves
 abbrev pub restRow : ℕ → ℕ → (ℕ → NodeState) → List ℕ
 restRow width links state = rowOf width links state (λ i. noFlow) (λ i. 0)
 
@@ -32,70 +34,113 @@ putNode width row i state flows off =
     i off
 
 -- the corridor's start
-unfoldable pub startRow : ℕ → List ℕ → ℕ → List ℕ
-startRow width corridor links = restRow width links (λ i. nodeAt corridor i .start)
+unfoldable pub startRow : List ℕ → ℕ → List ℕ
+startRow corridor links = restRow 2 links (λ i. nodeAt corridor i .start)
 
--- the flows of node i from the state of a row, at the rate and limit of a plan's row
-unfoldable pub rowFlows : ℕ → List ℕ → List ℕ → ℕ → List ℕ → List ℕ → ℕ → Flows
-rowFlows width corridor demand downstream plan state i =
-    flowsWith (junction (stepRoad corridor demand downstream) 0 (stateIn width state) i) (getD plan (i * 2 + 0) 0) (getD plan (i * 2 + 1) 0)
+-- ---- rules 1 to 5
+
+-- what they ask of node i, whose supply is told
+abbrev pub junctionIn : List ℕ → List ℕ → List ℕ → ℕ → ℕ → Junction
+junctionIn table demand state supply i =
+    record { link = linkIn table i; ramp = rampIn table i; state = stateIn 2 state i; split = getD demand (i * 2 + 1) 0; supply = supply }
+
+-- its flows, at the rate and limit of a plan's row
+abbrev pub flowsFrom : List ℕ → List ℕ → List ℕ → List ℕ → ℕ → ℕ → Flows
+flowsFrom table demand plan state supply i = flowsWith (junctionIn table demand state supply i) (getD plan (i * 2 + 0) 0) (getD plan (i * 2 + 1) 0)
+
+-- the flows of node i from a state, at the rate and limit of a plan's row
+unfoldable pub rowFlows : List ℕ → ℕ → List ℕ → ℕ → List ℕ → List ℕ → ℕ → Flows
+rowFlows table links demand downstream plan state i =
+    flowsWith (junction (tableRoad table links demand downstream) 0 (stateIn 2 state) i) (getD plan (i * 2 + 0) 0) (getD plan (i * 2 + 1) 0)
+
+abbrev pub flowWord : Flows → ℕ → ℕ
+flowWord flows zero = flows .main
+flowWord flows (suc q) = flows .ramp
+
+unfoldable pub flowRow : List ℕ → ℕ → List ℕ → ℕ → List ℕ → List ℕ → List ℕ
+flowRow table links demand downstream plan state = rowWords 2 (suc links) (λ i. flowWord (rowFlows table links demand downstream plan state i))
+
+-- ---- the record's row, and rule 6
+
+-- the flows of node i in a row of flows
+unfoldable pub passedIn : List ℕ → ℕ → Flows
+passedIn flows i = record { main = getD flows (i * 2 + 0) 0; ramp = getD flows (i * 2 + 1) 0 }
 
 -- what leaves by its off-ramp
-unfoldable pub rowExit : ℕ → List ℕ → List ℕ → ℕ → List ℕ → List ℕ → ℕ → ℕ
-rowExit width corridor demand downstream plan state i = exit (rowFlows width corridor demand downstream plan state i .main) (getD demand (i * 2 + 1) 0)
+abbrev pub leftIn : List ℕ → List ℕ → ℕ → ℕ
+leftIn demand flows i = exit (passedIn flows i .main) (getD demand (i * 2 + 1) 0)
 
--- the record's row: the state, and the step's flows
-unfoldable pub flowRow : ℕ → List ℕ → ℕ → List ℕ → ℕ → List ℕ → List ℕ → List ℕ
-flowRow width corridor links demand downstream plan state =
-    rowOf width links (stateIn width state) (rowFlows width corridor demand downstream plan state) (rowExit width corridor demand downstream plan state)
+unfoldable pub recordRow : ℕ → ℕ → List ℕ → List ℕ → List ℕ → List ℕ
+recordRow width links demand state flows = rowOf width links (stateIn 2 state) (passedIn flows) (leftIn demand flows)
 
--- the next state, by rule 6, which asks nothing of the corridor, nor of what may pass beyond it
-unfoldable pub nextRow : ℕ → ℕ → List ℕ → List ℕ → List ℕ
-nextRow width links demand row = restRow width links (next (stepRoad [] demand 0) 0 (stateIn width row) (flowsIn width row))
+-- the next state of node i, by rule 6, which asks nothing of the corridor, nor of what may pass beyond it
+unfoldable pub nextIn : List ℕ → List ℕ → List ℕ → ℕ → NodeState
+nextIn demand state flows = next (stepRoad [] demand 0) 0 (stateIn 2 state) (passedIn flows)
 
--- the vehicles and queues of a row
-unfoldable pub rowCost : ℕ → ℕ → List ℕ → ℕ
-rowCost width links row = stateCost (suc links) (stateIn width row)
+unfoldable pub nextRow : ℕ → List ℕ → List ℕ → List ℕ → List ℕ
+nextRow links demand state flows = restRow 2 links (nextIn demand state flows)
 
--- of a row with five words a node the one with four, and of one with four the one with five, where the fifth is what leaves of the node's f
-unfoldable pub narrowRow : ℕ → List ℕ → List ℕ
-narrowRow links row = rowOf 4 links (stateIn 5 row) (flowsIn 5 row) (λ i. 0)
+-- ---- what is asked
 
-unfoldable pub widenRow : ℕ → List ℕ → List ℕ → List ℕ
-widenRow links demand row = rowOf 5 links (stateIn 4 row) (flowsIn 4 row) (λ i. exit (flowsIn 4 row i .main) (getD demand (i * 2 + 1) 0))
-
--- what a step asks at node i: vehicles and queue no more than a run within limits ever has, arrivals, split and limit in their ranges
-pub record StepKept (width : ℕ) (corridor demand plan state : List ℕ) (i : ℕ) : Type 0 where
-  pub jam : stateIn width state i .vehicles ≤ nodeAt corridor i .link .jam
-  pub vehicles : stateIn width state i .vehicles ≤ 65536
-  pub queue : stateIn width state i .queue ≤ 228589568
+-- of node i: vehicles and queue no more than a run within limits ever has, arrivals, split and limit in their ranges
+pub record StepKept (table demand plan state : List ℕ) (i : ℕ) : Type 0 where
+  pub jam : stateIn 2 state i .vehicles ≤ linkIn table i .jam
+  pub vehicles : stateIn 2 state i .vehicles ≤ 65536
+  pub queue : stateIn 2 state i .queue ≤ 228589568
   pub arrivals : getD demand (i * 2 + 0) 0 ≤ 65536
   pub split : getD demand (i * 2 + 1) 0 ≤ 65536
   pub limit : getD plan (i * 2 + 1) 0 ≤ 65536
 
--- what rule 6 asks at node i
-pub record RowKept (width : ℕ) (demand row : List ℕ) (i : ℕ) : Type 0 where
-  pub main : flowsIn width row i .main ≤ stateIn width row i .vehicles
-  pub ramp : flowsIn width row i .ramp ≤ stateIn width row i .queue
-  pub vehicles : stateIn width row i .vehicles ≤ 65536
-  pub queue : stateIn width row i .queue ≤ 228589568
+-- the table of links, a row of the demands, a row of the plan, and the state
+pub record RowsFit (table demand plan state : List ℕ) (links : ℕ) : Type 0 where
+  pub few : links ≤ 64
+  pub tableFits : RowFits 8 table links
+  pub demandFits : RowFits 2 demand links
+  pub planFits : RowFits 2 plan links
+  pub stateFits : RowFits 2 state links
+  pub kept : (i : ℕ) → i ≤ links → StepKept table demand plan state i
+
+-- by rule 6 of node i
+pub record MoveKept (demand state flows : List ℕ) (i : ℕ) : Type 0 where
+  pub main : passedIn flows i .main ≤ stateIn 2 state i .vehicles
+  pub ramp : passedIn flows i .ramp ≤ stateIn 2 state i .queue
+  pub vehicles : stateIn 2 state i .vehicles ≤ 65536
+  pub queue : stateIn 2 state i .queue ≤ 228589568
   pub arrivals : getD demand (i * 2 + 0) 0 ≤ 65536
   pub split : getD demand (i * 2 + 1) 0 ≤ 65536
 
--- ---- the rows that a step is lent
-
--- the corridor, a row of the demands, a row of the plan, and the state's row
-pub record RowsFit (width : ℕ) (corridor demand plan state : List ℕ) (links : ℕ) : Type 0 where
-  pub corridorFits : CorridorFits corridor links
+pub record MovesFit (demand state flows : List ℕ) (links : ℕ) : Type 0 where
+  pub few : links ≤ 64
   pub demandFits : RowFits 2 demand links
-  pub planFits : RowFits 2 plan links
-  pub stateFits : RowFits width state links
-  pub wide : Width width
-  pub kept : (i : ℕ) → i ≤ links → StepKept width corridor demand plan state i
+  pub stateFits : RowFits 2 state links
+  pub flowsFit : RowFits 2 flows links
+  pub kept : (i : ℕ) → i ≤ links → MoveKept demand state flows i
 
--- what a step makes of them: the record's row, the next state's row, and that state's vehicles and queues
-pub record Stepped (width : ℕ) (corridor : List ℕ) (links : ℕ) (demand : List ℕ) (downstream : ℕ) (plan state row after : List ℕ) (total : ℕ) : Type 0 where
-  pub written : row ≡ flowRow width corridor links demand downstream plan state
-  pub moved : after ≡ nextRow width links demand row
-  pub adds : total ≡ rowCost width links after
+-- ---- what is given
+
+-- of node i, whose link gains `gained`: its words in the record's row and in the state, what it passes on, and its next vehicles and queue
+pub record NodeMoved (width : ℕ) (demand state flows row : List ℕ) (i gained : ℕ) (after written : List ℕ) (outward total : ℕ) : Type 0 where
+  pub stored : written ≡ putNode width row i (stateIn 2 state i) (passedIn flows i) (leftIn demand flows i)
+  pub moves : after ≡ set (set state (i * 2) (moved (stateIn 2 state i) gained (getD demand (i * 2 + 0) 0) (passedIn flows i) .vehicles)) (i * 2 + 1)
+      (moved (stateIn 2 state i) gained (getD demand (i * 2 + 0) 0) (passedIn flows i) .queue)
+  pub passes : outward ≡ outflow (passedIn flows i) (getD demand (i * 2 + 1) 0)
+  pub small : outward ≤ 228655104
+  pub adds : total ≡ moved (stateIn 2 state i) gained (getD demand (i * 2 + 0) 0) (passedIn flows i) .vehicles
+      + moved (stateIn 2 state i) gained (getD demand (i * 2 + 0) 0) (passedIn flows i) .queue
+  pub low : total ≤ 8589934590
+
+-- of all nodes: the record's row, the next state, and its vehicles and queues
+pub record RowMoved (width : ℕ) (demand state flows : List ℕ) (links : ℕ) (row after : List ℕ) (total : ℕ) : Type 0 where
+  pub written : row ≡ recordRow width links demand state flows
+  pub moves : after ≡ nextRow links demand state flows
+  pub adds : total ≡ stateCost (suc links) (nextIn demand state flows)
   pub low : total ≤ 558345748350
+
+-- of a step: all of these, with the flows that rules 1 to 5 give
+pub record Stepped (width : ℕ) (table : List ℕ) (links : ℕ) (demand : List ℕ) (downstream : ℕ) (plan state flows row after : List ℕ) (total : ℕ) : Type 0 where
+  pub passed : flows ≡ flowRow table links demand downstream plan state
+  pub gives : RowMoved width demand state flows links row after total
+
+-- the vehicles and queues of a record's row
+unfoldable pub rowCost : ℕ → ℕ → List ℕ → ℕ
+rowCost width links row = stateCost (suc links) (stateIn width row)

@@ -1,20 +1,18 @@
 // The first refusal of a proposed record: 7 over all its rows, then 8 to 12 step by step, then 13.
 ghost use mathlib.Core.Path.{_≡_};
 ghost use mathlib.Core.Bool.{true, _&&_};
-ghost use mathlib.Core.List.{[]};
-ghost use Prim.Native.Nat.{_≤_, _<_};
+ghost use Prim.Native.Nat.{ℕ, _≤_, _<_};
 ghost use lib.ListN.{length};
 ghost use lib.Dec.{eqb};
 ghost use Rattle.tables.specs.declared.Answer.the-variants.{Accepted};
-ghost use Rattle.tables.specs.Answer.{refusal};
-ghost use Rattle.road.specs.Run.{cost};
-ghost use Rattle.lists.specs.Words.{linksOf, stepsOf, roadOf, Width, traceOf, planLength, recordLength, widthOf};
+ghost use Rattle.lists.specs.Words.{linksOf, stepsOf, roadOf, Width, planLength, recordLength, widthOf};
 ghost use Rattle.lists.specs.Fits.{CorridorFits};
+ghost use Rattle.link_table.specs.Table.{tableOf};
 ghost use Rattle.lengths.specs.Lengths.{recordSized, sizes};
-ghost use Rattle.convert.specs.Refusals.{costFault, judged};
+ghost use Rattle.convert.specs.Refusals.{judged};
 ghost use Rattle.convert.specs.Convert.{recordRefusal};
-ghost use Rattle.convert_rows.specs.Rows.{bareRoad};
-ghost use Rattle.convert.specs.Rows.{fixedRowRefusal, fixedRefusal, stepRefusal, stepsRefusal, stateCostAt, Ready};
+ghost use Rattle.convert.specs.Rows.{fixedRowRefusal, fixedRefusal, stepRefusal, stepsRefusal, stateCostAt, costIn, CostKnown, costRefusal, Ready};
+use convert_rows::inner::rows::Found;
 use lists::inner::rows;
 use lists::inner::words;
 use tables::Answer;
@@ -96,21 +94,23 @@ pub fn scan_fixed(
     Answer::Accepted
 }
 
-// The first node of step k with one of refusals 8 to 12, where no step before it has any.
+// The first node of step k with one of refusals 8 to 12, where no step before it has any, and the vehicles and queues of state k + 1.
 fn step_at(
     corridor: &[u32],
+    table: &[u32],
     demands: &[u32],
     links: usize,
     steps: usize,
     words: &[u32],
     width: usize,
     k: usize,
-) -> Answer
+) -> Found
     requires { ⌜ Ready width (now corridor) (now demands) (now words) links steps ⌝ }
     requires { ⌜ fixedRefusal width (now corridor) links steps (now words) ≡ Accepted ⌝ }
     requires { ⌜ stepsRefusal width (now corridor) (now demands) links (now words) k ≡ Accepted ⌝ }
-    requires { ⌜ k < steps ⌝ }
-    ensures { λ r. ⌜ r ≡ stepRefusal width (now (corridor .entry)) (now (demands .entry)) links (now (words .entry)) k ⌝ }
+    requires { ⌜ (k < steps) × (now table ≡ tableOf (now corridor) links) ⌝ }
+    ensures found { λ r. ⌜ r .answer ≡ stepRefusal width (now (corridor .entry)) (now (demands .entry)) links (now (words .entry)) k ⌝ }
+    ensures adds { λ r. ⌜ (r .cost ≡ stateCostAt width links steps (now (words .entry)) k) × (r .cost ≤ 558345748350) ⌝ }
 {
     let narrow = (links + 1) * 2;
     let wide = rows::state_words(links, width);
@@ -123,6 +123,7 @@ fn step_at(
     convert_rows::inner::rows::step_row(
         k,
         corridor,
+        table,
         links,
         &demands[at..end],
         words::downstream_at(demands, links, steps, k),
@@ -132,61 +133,45 @@ fn step_at(
     )
 }
 
-// The first step and node with one of refusals 8 to 12.
-pub fn scan_steps(
+// The first step and node with one of refusals 8 to 12, and, where there is none, the cost of states 1..K.
+fn scan_steps(
     corridor: &[u32],
+    table: &[u32],
     demands: &[u32],
     links: usize,
     steps: usize,
     words: &[u32],
     width: usize,
-) -> Answer
+) -> Found
     requires { ⌜ Ready width (now corridor) (now demands) (now words) links steps ⌝ }
     requires { ⌜ fixedRefusal width (now corridor) links steps (now words) ≡ Accepted ⌝ }
-    ensures { λ r. ⌜ r ≡ stepsRefusal width (now (corridor .entry)) (now (demands .entry)) links (now (words .entry)) steps ⌝ }
-{
-    let mut k: usize = 0;
-    while k < steps {
-        let answer = step_at(corridor, demands, links, steps, words, width, k);
-        if is_refused(answer) {
-            return answer;
-        }
-        k += 1;
-    }
-    Answer::Accepted
-}
-
-// The vehicles and queues of state k + 1.
-fn cost_at(links: usize, steps: usize, words: &[u32], width: usize, k: usize) -> u64
-    requires { ⌜ (links ≤ 64) × (steps ≤ 1440) × Width width × (length (now words) ≡ recordLength width links steps) × (k < steps) ⌝ }
-    ensures { λ r. ⌜ (r ≡ stateCostAt width links steps (now (words .entry)) k) × (r ≤ 558345748350) ⌝ }
-{
-    let wide = rows::state_words(links, width);
-    let at = rows::row_at(k + 1, wide, steps + 1);
-    let end = at + wide;
-    simulate_rows::inner::row_cost(links, &words[at..end], width)
-}
-
-// The cost of states 1..K.
-fn total_cost(links: usize, steps: usize, words: &[u32], width: usize) -> u64
-    requires { ⌜ (links ≤ 64) × (steps ≤ 1440) × Width width × (length (now words) ≡ recordLength width links steps) ⌝ }
-    ensures { λ r. ⌜ r ≡ cost (bareRoad [] links steps) (traceOf width (bareRoad [] links steps) (now (words .entry))) ⌝ }
+    requires { ⌜ now table ≡ tableOf (now corridor) links ⌝ }
+    ensures found { λ r. ⌜ r .answer ≡ stepsRefusal width (now (corridor .entry)) (now (demands .entry)) links (now (words .entry)) steps ⌝ }
+    ensures adds { λ r. ⌜ (r .answer ≡ Accepted → r .cost ≡ costIn width links steps (now (words .entry))) ⌝ }
 {
     let mut total: u64 = 0;
     let mut k: usize = 0;
     while k < steps {
-        total += cost_at(links, steps, words, width, k);
+        let step = step_at(corridor, table, demands, links, steps, words, width, k);
+        let answer = step.answer;
+        if is_refused(answer) {
+            return step;
+        }
+        total += step.cost;
         k += 1;
     }
-    total
+    Found {
+        answer: Answer::Accepted,
+        cost: total,
+    }
 }
 
-// Refusal 13.
-pub fn scan_cost(links: usize, steps: usize, words: &[u32], width: usize) -> Answer
-    requires { ⌜ (links ≤ 64) × (steps ≤ 1440) × Width width × (length (now words) ≡ recordLength width links steps) ⌝ }
-    ensures { λ r. ⌜ r ≡ refusal (costFault width (bareRoad [] links steps) (now (words .entry))) 0 0 ⌝ }
+// Refusal 13, where the cost is `total`: its words are the record's last two, whatever N, K and the width are.
+fn scan_cost(words: &[u32], total: u64) -> Answer
+    requires { ⌜ 2 ≤ length (now words) ⌝ }
+    ensures { λ r. ⌜ ((width links steps : ℕ) → CostKnown width links steps (now (words .entry)) total
+        → r ≡ costRefusal width links steps (now (words .entry))) ⌝ }
 {
-    let total = total_cost(links, steps, words, width);
     let at = words.len() - 2;
     refusal(
         record_faults::inner::total_fault(total, words[at], words[at + 1]),
@@ -206,11 +191,16 @@ pub fn judged(corridor: &[u32], demands: &[u32], words: &[u32], width: usize) ->
     if is_refused(fixed) {
         return fixed;
     }
-    let step = scan_steps(corridor, demands, links, steps, words, width);
-    if is_refused(step) {
-        return step;
+    let size = (links + 1) * 8;
+    let mut room = [0u32; 520];
+    let table = &mut room[..size];
+    link_table::inner::fill(corridor, links, table);
+    let step = scan_steps(corridor, table, demands, links, steps, words, width);
+    let answer = step.answer;
+    if is_refused(answer) {
+        return answer;
     }
-    scan_cost(links, steps, words, width)
+    scan_cost(words, step.cost)
 }
 
 // The first refusal of 2 to 5 and of 7 to 13, where all lengths are right.

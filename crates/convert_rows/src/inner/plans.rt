@@ -47,9 +47,8 @@ fn put_setting(out: &mut [u32], i: usize, setting: Setting, full: Speed)
     }
 }
 
-// The plan's row of a step, whose rows of the demands and of the record are lent. It is told a width of 4 wherever it is called, so that it is
-// compiled for that one.
-fn plan_nodes(
+// The plan's row of a step, whose rows of the demands and of the record are lent.
+pub fn plan_row(
     corridor: &[u32],
     links: usize,
     demand: &[u32],
@@ -69,46 +68,5 @@ fn plan_nodes(
         let link = words::link_at(corridor, links, i);
         put_setting(out, i, setting, link.full_speed);
         i += 1;
-    }
-}
-
-// The same where a node of the record has five words: on a row of four.
-fn plan_wide(
-    corridor: &[u32],
-    links: usize,
-    demand: &[u32],
-    downstream: Units,
-    row: &[u32],
-    out: &mut [u32],
-)
-    requires { ⌜ RowsKept 5 (now corridor) (now demand) (now row) links × SentKept 5 (now row) links ⌝ }
-    requires { ⌜ RowFits 2 (now out) links ⌝ }
-    ensures { λ _. ⌜ now (out .exit) ≡ planRow 5 (now (corridor .entry)) links (now (demand .entry)) (downstream .0) (now (row .entry)) ⌝ }
-{
-    let words = (links + 1) * 4;
-    let mut room = [0u32; 260];
-    let small = &mut room[..words];
-    simulate_rows::inner::narrow_row(row, links, small);
-    plan_nodes(corridor, links, demand, downstream, small, 4, out);
-}
-
-// The plan's row of a step, whose rows of the demands and of the record are lent.
-pub fn plan_row(
-    corridor: &[u32],
-    links: usize,
-    demand: &[u32],
-    downstream: Units,
-    row: &[u32],
-    width: usize,
-    out: &mut [u32],
-)
-    requires { ⌜ RowsKept width (now corridor) (now demand) (now row) links × SentKept width (now row) links ⌝ }
-    requires { ⌜ RowFits 2 (now out) links ⌝ }
-    ensures { λ _. ⌜ now (out .exit) ≡ planRow width (now (corridor .entry)) links (now (demand .entry)) (downstream .0) (now (row .entry)) ⌝ }
-{
-    if width > 4 {
-        plan_wide(corridor, links, demand, downstream, row, out);
-    } else {
-        plan_nodes(corridor, links, demand, downstream, row, 4, out);
     }
 }

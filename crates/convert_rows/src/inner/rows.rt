@@ -1,20 +1,27 @@
 // The checker on the rows of one step: the first node of a row with refusal 7, and of a step with one of 8 to 12.
 ghost use mathlib.Core.Path.{_≡_};
-ghost use Prim.Native.Nat.{ℕ, suc, _+_, _*_, _≤_, _<_};
-ghost use lib.ListN.{getD};
+ghost use Prim.Native.Nat.{suc, _≤_, _<_};
 ghost use Rattle.tables.specs.Answer.{refusal};
 ghost use Rattle.tables.specs.First.{firstNode};
-ghost use Rattle.road.specs.Step.{outflow};
 ghost use Rattle.road.specs.Run.{inflow};
 ghost use Rattle.lists.specs.Words.{Width};
 ghost use Rattle.lists.specs.Rows.{flowsIn, stepRoad};
 ghost use Rattle.lists.specs.Fits.{CorridorFits, RowFits, NodeIn};
-ghost use Rattle.convert_rows.specs.Rows.{fixedFaultIn, stepFaultIn, exitFaultIn, exitsDue, RowsKept};
+ghost use Rattle.link_table.specs.Table.{tableOf};
+ghost use Rattle.simulate_rows.specs.Rows.{rowCost};
+ghost use Rattle.convert_rows.specs.Rows.{fixedFaultIn, stepFaultIn, RowsKept};
+use crate::inner::quick;
 use lists::inner::words;
 use road::Units;
 use tables::Answer;
 use tables::is_refused;
 use tables::refusal;
+
+// What is found of steps: the first refusal, and the vehicles and queues of the states after them.
+pub struct Found {
+    pub answer: Answer,
+    pub cost: u64,
+}
 
 // Refusal 7 at node i, in the record's row k.
 fn fixed_answer(
@@ -140,19 +147,7 @@ fn step_answer(
     refusal(number, k as u32, i as u32)
 }
 
-// What node i passes on.
-fn outflow_at(demand: &[u32], row: &[u32], width: usize, i: usize) -> u32
-    requires { ⌜ NodeIn 2 (now demand) i × NodeIn width (now row) i × Width width ⌝ }
-    requires { ⌜ (getD (now demand) (i * 2 + 1) 0 ≤ 65536) × (flowsIn width (now row) i .main + flowsIn width (now row) i .ramp ≤ 134283264) ⌝ }
-    ensures { λ r. ⌜ (r ≡ outflow (flowsIn width (now (row .entry)) i) (getD (now (demand .entry)) (i * 2 + 1) 0)) × (r ≤ 134283264) ⌝ }
-{
-    let flows = words::flows_at(row, width, i);
-    let split = words::split_at(demand, i);
-    road::inner::outflow(flows, split).0
-}
-
-// The first node of step k with one of refusals 8 to 12, in the record's rows before and after the step. It is the loop that most of a check
-// goes through, and is told a width of 4 wherever it is called, so that it is compiled for that one.
+// The first node of step k with one of refusals 8 to 12, in the record's rows before and after the step, node by node.
 fn step_nodes(
     k: usize,
     corridor: &[u32],
@@ -186,138 +181,42 @@ fn step_nodes(
         if is_refused(answer) {
             return answer;
         }
-        gained = outflow_at(demand, row, width, i);
+        gained = quick::outflow_at(demand, row, width, i);
         i += 1;
     }
     Answer::Accepted
 }
 
-// Refusal 11 for the exit of node i in a row of kind 7, or 0.
-fn exit_answer(k: usize, demand: &[u32], row: &[u32], i: usize) -> Answer
-    requires { ⌜ NodeIn 2 (now demand) i × NodeIn 5 (now row) i ⌝ }
-    requires { ⌜ (k ≤ 1440) × (i ≤ 64) × (getD (now demand) (i * 2 + 1) 0 ≤ 65536) ⌝ }
-    ensures { λ r. ⌜ r ≡ refusal (exitFaultIn 5 (now (demand .entry)) (now (row .entry)) i) k i ⌝ }
-{
-    let said = words::exit_at(row, 5, i);
-    let flows = words::flows_at(row, 5, i);
-    let split = words::split_at(demand, i);
-    let number = record_faults::inner::exit_fault(said, flows.main, split);
-    refusal(number, k as u32, i as u32)
-}
-
-// The first of `count` nodes of step k with a wrong exit, in a row of kind 7.
-fn exits_row(k: usize, links: usize, demand: &[u32], row: &[u32], count: usize) -> Answer
-    requires { ⌜ RowFits 2 (now demand) links × RowFits 5 (now row) links × (k ≤ 1440) × (links ≤ 64) × (count ≤ links + 1) ⌝ }
-    requires { ⌜ ((j : ℕ) → j ≤ links → getD (now demand) (j * 2 + 1) 0 ≤ 65536) ⌝ }
-    ensures { λ r. ⌜ r ≡ firstNode count k (exitFaultIn 5 (now (demand .entry)) (now (row .entry))) ⌝ }
-{
-    let mut i: usize = 0;
-    while i < count {
-        let answer = exit_answer(k, demand, row, i);
-        if is_refused(answer) {
-            return answer;
-        }
-        i += 1;
-    }
-    Answer::Accepted
-}
-
-// Of how many nodes the exits come before an answer that was found without a look at them.
-fn exits_due(answer: Answer, count: usize) -> usize
-    ensures { λ r. ⌜ r ≡ exitsDue answer count ⌝ }
-{
-    match answer {
-        Answer::Accepted => count,
-        Answer::Refused {
-            number,
-            row: _,
-            node,
-        } => {
-            if number > 10 {
-                node as usize + 1
-            } else {
-                node as usize
-            }
-        }
-    }
-}
-
-// The first node of step k with one of refusals 8 to 12 in rows of kind 7: by their words of kind 3, for which there is room in `small` and
-// `next`, and then by the exits that come before.
-fn step_in(
-    k: usize,
-    corridor: &[u32],
-    links: usize,
-    demand: &[u32],
-    downstream: Units,
-    row: &[u32],
-    after: &[u32],
-    small: &mut [u32],
-    next: &mut [u32],
-) -> Answer
-    requires { ⌜ RowsKept 5 (now corridor) (now demand) (now row) links ⌝ }
-    requires { ⌜ RowFits 5 (now after) links × (k ≤ 1440) × RowFits 4 (now small) links × RowFits 4 (now next) links ⌝ }
-    ensures { λ r. ⌜ r ≡ firstNode (suc links) k (stepFaultIn 5 (now (corridor .entry)) (now (demand .entry)) (downstream .0) (now (row .entry)) (now (after .entry))) ⌝ }
-{
-    simulate_rows::inner::narrow_row(row, links, small);
-    simulate_rows::inner::narrow_row(after, links, next);
-    let plain = step_nodes(k, corridor, links, demand, downstream, small, next, 4);
-    let exits = exits_row(k, links, demand, row, exits_due(plain, links + 1));
-    if is_refused(exits) {
-        return exits;
-    }
-    plain
-}
-
-// The same, with the room.
-fn step_wide(
-    k: usize,
-    corridor: &[u32],
-    links: usize,
-    demand: &[u32],
-    downstream: Units,
-    row: &[u32],
-    after: &[u32],
-) -> Answer
-    requires { ⌜ RowsKept 5 (now corridor) (now demand) (now row) links ⌝ }
-    requires { ⌜ RowFits 5 (now after) links × (k ≤ 1440) ⌝ }
-    ensures { λ r. ⌜ r ≡ firstNode (suc links) k (stepFaultIn 5 (now (corridor .entry)) (now (demand .entry)) (downstream .0) (now (row .entry)) (now (after .entry))) ⌝ }
-{
-    let small = (links + 1) * 4;
-    let mut room = [0u32; 260];
-    let mut next_room = [0u32; 260];
-    let here = &mut room[..small];
-    let next = &mut next_room[..small];
-    step_in(
-        k,
-        corridor,
-        links,
-        demand,
-        downstream,
-        row,
-        after,
-        here,
-        next,
-    )
-}
-
-// The first node of step k with one of refusals 8 to 12, in the record's rows before and after the step.
+// The same, and the vehicles and queues of the state after the step. Only a step that fails the quick test is looked at node by node.
 pub fn step_row(
     k: usize,
     corridor: &[u32],
+    table: &[u32],
     links: usize,
     demand: &[u32],
     downstream: Units,
     row: &[u32],
     after: &[u32],
     width: usize,
-) -> Answer
+) -> Found
     requires { ⌜ RowsKept width (now corridor) (now demand) (now row) links ⌝ }
-    requires { ⌜ RowFits width (now after) links × (k ≤ 1440) ⌝ }
-    ensures { λ r. ⌜ r ≡ firstNode (suc links) k (stepFaultIn width (now (corridor .entry)) (now (demand .entry)) (downstream .0) (now (row .entry)) (now (after .entry))) ⌝ }
+    requires { ⌜ RowFits width (now after) links × (k ≤ 1440) × (now table ≡ tableOf (now corridor) links) ⌝ }
+    ensures found { λ r. ⌜ r .answer
+        ≡ firstNode (suc links) k
+        (stepFaultIn width (now (corridor .entry)) (now (demand .entry)) (downstream .0) (now (row .entry)) (now (after .entry))) ⌝ }
+    ensures adds { λ r. ⌜ (r .cost ≡ rowCost width links (now (after .entry))) × (r .cost ≤ 558345748350) ⌝ }
 {
-    if width > 4 {
-        return step_wide(k, corridor, links, demand, downstream, row, after);
+    let moves = quick::step_moves(table, links, demand, downstream, row, after, width);
+    if moves.holds {
+        return Found {
+            answer: Answer::Accepted,
+            cost: moves.cost,
+        };
     }
-    step_nodes(k, corridor, links, demand, downstream, row, after, 4)
+    let answer = step_nodes(k, corridor, links, demand, downstream, row, after, width);
+    let cost = simulate_rows::inner::row_cost(links, after, width);
+    Found {
+        answer: answer,
+        cost: cost,
+    }
 }

@@ -4,25 +4,27 @@ ghost use Prim.Native.Nat.{_<_};
 ghost use lib.ListN.{length};
 ghost use Rattle.lists.specs.Words.{linksOf, stepsOf, Width, traceLength, recordLength, widthOf};
 ghost use Rattle.lists.specs.Fits.{RowFits};
-ghost use Rattle.simulate.specs.Simulate.{Sound, stateRow, runCost, Ran, RanAll, simulated};
+ghost use Rattle.simulate.specs.Simulate.{Sound, stateRow, runCost, RunAt, Ran, RanAll, simulated};
 use lists::inner::rows;
 use lists::inner::words;
 
 // Step k: the record's row of it, and the next state in the state's place. It gives the next state's vehicles and queues.
 fn step_at(
     corridor: &[u32],
+    table: &[u32],
     demands: &[u32],
     plan: &[u32],
     k: usize,
     state: &mut [u32],
+    flows: &mut [u32],
     row: &mut [u32],
     width: usize,
 ) -> u64
-    requires { ⌜ Sound (now corridor) (now demands) (now plan) × Width width ⌝ }
-    requires { ⌜ k < stepsOf (now demands) ⌝ }
-    requires { ⌜ now state ≡ stateRow width (now corridor) (now demands) (now plan) k ⌝ }
-    requires { ⌜ RowFits width (now row) (linksOf (now corridor)) ⌝ }
-    ensures { λ r. ⌜ Ran width (now (corridor .entry)) (now (demands .entry)) (now (plan .entry)) k (now (row .exit)) (now (state .exit)) r ⌝ }
+    requires { ⌜ Sound (now corridor) (now demands) (now plan) × (k < stepsOf (now demands)) ⌝ }
+    requires { ⌜ RunAt (now corridor) (now demands) (now plan) k (now table) (now state) (now flows) ⌝ }
+    requires { ⌜ RowFits width (now row) (linksOf (now corridor)) × Width width ⌝ }
+    ensures { λ r. ⌜ Ran width (now (corridor .entry)) (now (demands .entry)) (now (plan .entry)) k
+        (now (flows .exit)) (now (row .exit)) (now (state .exit)) r ⌝ }
 {
     let links = words::links_of(corridor);
     let steps = words::steps_of(demands);
@@ -33,12 +35,13 @@ fn step_at(
     let to = from + narrow;
     let downstream = words::downstream_at(demands, links, steps, k);
     simulate_rows::inner::step(
-        corridor,
+        table,
         links,
         &demands[from..to],
         downstream,
         &plan[at..end],
         state,
+        flows,
         row,
         width,
     )
@@ -47,55 +50,50 @@ fn step_at(
 // All steps on the state alone; `row` is room for a step's row. It gives the cost.
 pub fn run_state(
     corridor: &[u32],
+    table: &[u32],
     demands: &[u32],
     plan: &[u32],
     state: &mut [u32],
+    flows: &mut [u32],
     row: &mut [u32],
     width: usize,
 ) -> u64
-    requires { ⌜ Sound (now corridor) (now demands) (now plan) × Width width ⌝ }
-    requires { ⌜ now state ≡ stateRow width (now corridor) (now demands) (now plan) 0 ⌝ }
-    requires { ⌜ RowFits width (now row) (linksOf (now corridor)) ⌝ }
-    ensures { λ r. ⌜ (now (state .exit) ≡ stateRow width (now (corridor .entry)) (now (demands .entry)) (now (plan .entry)) (stepsOf (now (demands .entry)))) × (r ≡ runCost (now (corridor .entry)) (now (demands .entry)) (now (plan .entry))) ⌝ }
+    requires { ⌜ Sound (now corridor) (now demands) (now plan) ⌝ }
+    requires { ⌜ RunAt (now corridor) (now demands) (now plan) 0 (now table) (now state) (now flows) ⌝ }
+    requires { ⌜ RowFits width (now row) (linksOf (now corridor)) × Width width ⌝ }
+    ensures reached { λ _. ⌜ now (state .exit)
+        ≡ stateRow 2 (now (corridor .entry)) (now (demands .entry)) (now (plan .entry)) (stepsOf (now (demands .entry))) ⌝ }
+    ensures adds { λ r. ⌜ r ≡ runCost (now (corridor .entry)) (now (demands .entry)) (now (plan .entry)) ⌝ }
 {
     let steps = words::steps_of(demands);
     let mut total: u64 = 0;
     let mut k: usize = 0;
     while k < steps {
-        total += step_at(corridor, demands, plan, k, state, row, width);
+        total += step_at(corridor, table, demands, plan, k, state, flows, row, width);
         k += 1;
     }
     total
 }
 
-// A row, copied.
-fn copy_row(from: &[u32], to: &mut [u32])
-    requires { ⌜ length (now from) ≡ length (now to) ⌝ }
-    ensures { λ _. ⌜ now (to .exit) ≡ now (from .entry) ⌝ }
-{
-    let mut i: usize = 0;
-    while i < to.len() {
-        to[i] = from[i];
-        i += 1;
-    }
-}
-
-// All steps, each with its row of the record. It gives the cost.
+// All steps, each with its row of the record, and then the row of the last state. It gives the cost.
 fn run_steps(
     corridor: &[u32],
+    table: &[u32],
     demands: &[u32],
     plan: &[u32],
     state: &mut [u32],
+    flows: &mut [u32],
     states: &mut [u32],
     width: usize,
 ) -> u64
     requires { ⌜ Sound (now corridor) (now demands) (now plan) × Width width ⌝ }
-    requires { ⌜ now state ≡ stateRow width (now corridor) (now demands) (now plan) 0 ⌝ }
+    requires { ⌜ RunAt (now corridor) (now demands) (now plan) 0 (now table) (now state) (now flows) ⌝ }
     requires { ⌜ length (now states) ≡ traceLength width (linksOf (now corridor)) (stepsOf (now demands)) ⌝ }
     ensures { λ r. ⌜ RanAll width (now (corridor .entry)) (now (demands .entry)) (now (plan .entry)) (now (states .exit)) r ⌝ }
 {
+    let links = words::links_of(corridor);
     let steps = words::steps_of(demands);
-    let wide = rows::state_words(words::links_of(corridor), width);
+    let wide = rows::state_words(links, width);
     let count = steps + 1;
     let mut total: u64 = 0;
     let mut k: usize = 0;
@@ -104,10 +102,12 @@ fn run_steps(
         let end = at + wide;
         total += step_at(
             corridor,
+            table,
             demands,
             plan,
             k,
             state,
+            flows,
             &mut states[at..end],
             width,
         );
@@ -115,29 +115,38 @@ fn run_steps(
     }
     let last = rows::row_at(steps, wide, count);
     let past = last + wide;
-    copy_row(state, &mut states[last..past]);
+    simulate_rows::inner::rest_row(links, state, &mut states[last..past], width);
     total
 }
 
-// The same from the corridor's start, with room for a state of 65 nodes.
+// The same from the corridor's start, with room for 65 nodes.
 fn run_all(corridor: &[u32], demands: &[u32], plan: &[u32], states: &mut [u32], width: usize) -> u64
     requires { ⌜ Sound (now corridor) (now demands) (now plan) × Width width ⌝ }
     requires { ⌜ length (now states) ≡ traceLength width (linksOf (now corridor)) (stepsOf (now demands)) ⌝ }
     ensures { λ r. ⌜ RanAll width (now (corridor .entry)) (now (demands .entry)) (now (plan .entry)) (now (states .exit)) r ⌝ }
 {
     let links = words::links_of(corridor);
-    let wide = rows::state_words(links, width);
-    let mut room = [0u32; 325];
-    let state = &mut room[..wide];
-    simulate_rows::inner::start_row(corridor, links, state, width);
-    run_steps(corridor, demands, plan, state, states, width)
+    let two = (links + 1) * 2;
+    let eight = (links + 1) * 8;
+    let mut table_room = [0u32; 520];
+    let table = &mut table_room[..eight];
+    link_table::inner::fill(corridor, links, table);
+    let mut state_room = [0u32; 130];
+    let state = &mut state_room[..two];
+    simulate_rows::inner::start(corridor, links, state);
+    let mut flow_room = [0u32; 130];
+    let flows = &mut flow_room[..two];
+    run_steps(corridor, table, demands, plan, state, flows, states, width)
 }
 
 // The whole record, of the kind that its length tells: the words of all states, then the cost.
 pub fn write_record(corridor: &[u32], demands: &[u32], plan: &[u32], output: &mut [u32])
     requires { ⌜ Sound (now corridor) (now demands) (now plan) ⌝ }
-    requires { ⌜ length (now output) ≡ recordLength (widthOf (now corridor) (now demands) (length (now output))) (linksOf (now corridor)) (stepsOf (now demands)) ⌝ }
-    ensures { λ _. ⌜ now (output .exit) ≡ simulated (widthOf (now (corridor .entry)) (now (demands .entry)) (length (now (output .entry)))) (now (corridor .entry)) (now (demands .entry)) (now (plan .entry)) ⌝ }
+    requires { ⌜ length (now output)
+        ≡ recordLength (widthOf (now corridor) (now demands) (length (now output))) (linksOf (now corridor)) (stepsOf (now demands)) ⌝ }
+    ensures { λ _. ⌜ now (output .exit)
+        ≡ simulated (widthOf (now (corridor .entry)) (now (demands .entry)) (length (now (output .entry))))
+        (now (corridor .entry)) (now (demands .entry)) (now (plan .entry)) ⌝ }
 {
     let links = words::links_of(corridor);
     let steps = words::steps_of(demands);

@@ -1,32 +1,24 @@
--- No step before k has a fault.
-use Prim.Native.Nat.{suc, _-_}
+-- By the scan of the rows, with the row that bounds them.
+use native.Mathlib.Omega.{arith}
+use lib.ListN.{length-take}
 use borrow.Author.Needs.{needs}
-use Rattle.tables.specs.First.{firstNode}
-use Rattle.tables.proofs.First.{Passed}
-use Rattle.tables.proofs.Sets.{scans}
-use Rattle.list_scans.specs.declared.inner.NodeTest.the-variants.{Demand}
-use Rattle.list_scans.specs.Scans.{nodeFaultAt}
-use Rattle.file_rows.specs.Words.{demandsIn}
 use Rattle.file_scans.proofs.inner.scan_demands.Statement.{statement}
 use Rattle.file_scans.proofs.inner.scan_demands.Tie as tie
 
-abbrev Inv-loop : tie.InvT-loop
-Inv-loop corridor links steps demands k₀ k = Passed k steps (λ j. firstNode (suc links) j (nodeFaultAt Demand corridor links steps 1 (demandsIn links steps demands) j))
-
-abbrev μ-loop : tie.MeasureT-loop
-μ-loop corridor links steps demands k₀ k = steps - k
+scan-rows-requires : tie.Need-scan-rows-requires
+scan-rows-requires c κs =
+    let m = c .before .before .before in
+    let k = m .before .before .before .before .before in
+    ((k .pre .0, m .most-row .ensures), k .pre .1)
 
 pub scan-demands-spec : {M : Type 1} → statement M
 scan-demands-spec =
     tie.close
     (tie.spec
-    Inv-loop
-    μ-loop
-    (λ c. search scans)
-    (λ c κs. search needs)
-    (λ c κs. search needs)
-    (λ c. search scans)
     (λ c. search needs)
     (λ c. search needs)
-    (λ c. search scans)
-    (λ c. search scans))
+    (λ c. search needs)
+    (λ c. simp length-take (omega (arith, c .before .before .before .pre .0 .few)))
+    (λ c κs. (c .before .before .before .before .pre .0, simp length-take (omega (arith, c .before .before .before .before .pre .0 .few))))
+    scan-rows-requires
+    (λ c. search needs))

@@ -1,63 +1,68 @@
--- Each node keeps its state and has the flows of the plan, and what leaves by its off-ramp.
-use Prim.Native.Nat.{_+_, _-_}
+-- The flows of the first i nodes are written.
+use Prim.Native.Nat.{_-_}
+use mathlib.Core.Path.{sym, ap, _∙_}
 use native.Mathlib.Omega.{arith}
-use Rattle.lists.specs.Rows.{stateIn}
-use Rattle.simulate_rows.specs.Rows.{rowFlows, rowExit, flowRow}
-use Rattle.simulate_rows.proofs.Rows.{Written, written-more, written-room, exit-told}
-use Rattle.simulate_rows.proofs.Sets.{writes}
+use lib.ListN.{length, length-set}
+use borrow.Author.Needs.{needs}
+use Rattle.simulate_rows.proofs.Steps.{here-asks, next-asks, Flowing, flowing-begun, flowing-more, flowing-ended, flowing-room}
 use Rattle.simulate_rows.proofs.inner.flow_row.Statement.{statement}
 use Rattle.simulate_rows.proofs.inner.flow_row.Tie as tie
 
 abbrev Inv-loop : tie.InvT-loop
-Inv-loop corridor links demand downstream plan state row₀ width nodes i₀ row i =
-    Written width i links (stateIn width state) (rowFlows width corridor demand (downstream .0) plan state) (rowExit width corridor demand (downstream .0) plan state) row₀ row
+Inv-loop table links demand downstream plan state flows₀ i₀ flows i = Flowing table links demand (downstream .0) plan state i flows₀ flows
 
 abbrev μ-loop : tie.MeasureT-loop
-μ-loop corridor links demand downstream plan state row₀ width nodes i₀ row i = links + 1 - i
+μ-loop table links demand downstream plan state flows₀ i₀ flows i = links - i
+
+receiving-at-requires : tie.Need-receiving-at-requires Inv-loop μ-loop
+receiving-at-requires c κs =
+    let l = c .before in
+    next-asks _ _ _ _ _ (l .before .before .before .before .before .before .pre .0) (l .loop .i) (omega arith)
 
 plan-flows-requires : tie.Need-plan-flows-requires Inv-loop μ-loop
 plan-flows-requires c κs =
-    let k = c .before .before .before .before .before .before .before in
-    (k .pre .0, omega arith)
+    let l = c .before .before in
+    here-asks _ _ _ _ _ (l .before .before .before .before .before .before .pre .0) (l .loop .i) (omega arith)
 
-exit-requires : tie.Need-exit-requires Inv-loop μ-loop
-exit-requires c κs =
-    let k = c .before .before .before .before .before .before .before .before .before in
-    let m = c .before .before .before .loop .i in
-    omega (arith, k .pre .0 .kept m (omega arith) .split, c .split-at .ensures)
-
-put-node-requires : tie.Need-put-node-requires Inv-loop μ-loop
-put-node-requires c κs = (c .before .before .before .before .before .before .before .before .before .before .before .before .pre .0 .wide, written-room _ _ _ _ _ _ _ _ (c .before .before .before .before .before .before .loop .inv) (omega arith))
+put-two-requires : tie.Need-put-two-requires Inv-loop μ-loop
+put-two-requires c κs =
+    let l = c .before .before .before .before in
+    flowing-room _ _ _ _ _ _ _ _ _ (l .loop .inv) (l .loop .i) (omega arith)
 
 loop-again : tie.Need-loop-again Inv-loop μ-loop
-unfolding rowExit
 loop-again c =
     let p = c .before .before in
-    let x = p .before .before .before in
-    let f = x .before .before in
-    let k = f .before .before .before .before .before .before .before .before in
-    written-more _ _ _ _ _ _ _ _ _ _ _ _ (k .pre .0 .wide) (f .before .before .loop .inv) (omega arith) (p .before .state-at .ensures) (f .plan-flows .ensures)
-    (exit-told _ _ _ _ _ (x .exit .ensures .0) (f .plan-flows .ensures) (x .before .split-at .ensures)) (p .put-node .ensures)
+    let f = p .before .before in
+    let r = f .before in
+    flowing-more _ _ _ _ _ _ _ _ _ _ _ _ (r .before .before .loop .inv) (omega arith) (r .receiving-at .ensures) (f .plan-flows .ensures) (p .put-two .ensures)
 
-add-i : tie.Need-add-i Inv-loop μ-loop
-add-i c = omega (arith, c .before .before .before .before .before .before .before .before .before .before .before .before .before .before .before .pre .0 .corridorFits .few)
+plan-flows-requires-2 : tie.Need-plan-flows-requires-2 Inv-loop μ-loop
+plan-flows-requires-2 c κs = here-asks _ _ _ _ _ (c .before .before .before .before .before .before .before .pre .0) _ (omega arith)
+
+put-two-requires-2 : tie.Need-put-two-requires-2 Inv-loop μ-loop
+put-two-requires-2 c κs = flowing-room _ _ _ _ _ _ _ _ _ (c .before .before .before .loop .inv) _ (omega arith)
+
+returns : tie.Need-returns Inv-loop μ-loop
+returns c =
+    let p = c .before .before in
+    let f = p .before .before in
+    flowing-ended _ _ _ _ _ _ _ _ _ _ _ (f .before .before .loop .inv) (omega arith) (f .plan-flows2 .ensures) (p .put-two2 .ensures)
 
 pub flow-row-spec : {M : Type 1} → statement M
-unfolding flowRow
 flow-row-spec =
     tie.close
     (tie.spec
     Inv-loop
     μ-loop
-    (λ c. search writes)
-    (λ c. search writes)
+    (λ c. search (flowing-begun, needs))
+    (λ c. search needs)
+    receiving-at-requires
     plan-flows-requires
-    (λ c κs. search writes)
-    exit-requires
-    (λ c κs. search writes)
-    put-node-requires
-    add-i
-    (λ c. search writes)
+    put-two-requires
+    (λ c. search needs)
+    (λ c. search needs)
     loop-again
-    (λ c. search writes)
-    (λ c. search writes))
+    plan-flows-requires-2
+    put-two-requires-2
+    (λ c. ap length (c .before .before .put-two2 .ensures) ∙ simp length-set (sym (c .before .before .before .before .before .before .loop .inv .placed .is .same)))
+    returns)

@@ -1,30 +1,39 @@
--- The width that is told is one of two numbers.
+-- The sum so far, each node at most two words.
+use Prim.Native.Nat.{_+_, _-_}
+use mathlib.Core.Path.{ap, _∙_}
 use native.Mathlib.Omega.{arith}
-use Rattle.simulate_rows.proofs.Wide.{width-four, width-five, told-five, told-four, told-fits, told-cost}
+use Rattle.tables.proofs.Sum.{Summed, summed-more}
+use Rattle.tables.proofs.Sets.{all}
+use Rattle.road.specs.Corridor.{NodeState}
+use Rattle.lists.specs.Rows.{stateIn}
+use Rattle.lists.proofs.Rows.{node-among}
+use Rattle.simulate_rows.proofs.Rows.{row-summed}
 use Rattle.simulate_rows.proofs.inner.row_cost.Statement.{statement}
 use Rattle.simulate_rows.proofs.inner.row_cost.Tie as tie
 
-nodes-cost-requires : tie.Need-nodes-cost-requires
-nodes-cost-requires c κs =
-    let k = c .before .before in
-    (told-fits _ _ (told-five _ (k .pre .1) (omega (arith, c .if1 .taken))) (k .args .row .now) _ (k .pre .0), width-five, k .pre .2)
+abbrev Inv-loop : tie.InvT-loop
+Inv-loop links row width nodes total₀ i₀ total i = Summed i (links + 1) 8589934590 (λ j. stateIn width row j .vehicles + stateIn width row j .queue) total
 
-returns : tie.Need-returns
-returns c =
-    let t = c .before in
-    let k = t .before .before in
-    told-cost _ _ (told-five _ (k .pre .1) (omega (arith, t .if1 .taken))) _ _ _ (c .nodes-cost .ensures)
+abbrev μ-loop : tie.MeasureT-loop
+μ-loop links row width nodes total₀ i₀ total i = links + 1 - i
 
-nodes-cost-requires-2 : tie.Need-nodes-cost-requires-2
-nodes-cost-requires-2 c κs =
-    let k = c .before .before in
-    (told-fits _ _ (told-four _ (k .pre .1) (omega (arith, c .if1 .left))) (k .args .row .now) _ (k .pre .0), width-four, k .pre .2)
-
-returns-2 : tie.Need-returns-2
-returns-2 c =
-    let t = c .before in
-    let k = t .before .before in
-    told-cost _ _ (told-four _ (k .pre .1) (omega (arith, t .if1 .left))) _ _ _ (c .nodes-cost2 .ensures)
+loop-again : tie.Need-loop-again Inv-loop μ-loop
+loop-again c =
+    let s = c .before in
+    summed-more _ _ _ _ _ _ (s .before .before .loop .inv) (omega arith) (c .load .ensures .0 ∙ ap (λ (x : NodeState). x .vehicles + x .queue) (s .state-at .ensures)) (c .load .ensures .1)
 
 pub row-cost-spec : {M : Type 1} → statement M
-row-cost-spec = tie.close (tie.spec nodes-cost-requires returns nodes-cost-requires-2 returns-2)
+row-cost-spec =
+    tie.close
+    (tie.spec
+    Inv-loop
+    μ-loop
+    (λ c. search all)
+    (λ c. search all)
+    (λ c κs. search (all, node-among))
+    (λ c κs. search all)
+    (λ c. search all)
+    (λ c. search all)
+    (λ c. search all)
+    loop-again
+    (λ c. row-summed _ _ _ _ _ (c .before .loop .inv) (omega arith) (omega arith)))

@@ -1,45 +1,27 @@
--- The width that is told is one of two numbers.
-use native.Mathlib.Omega.{arith}
+-- The flows, and then the rest.
+use mathlib.Core.Path.{ap, sym, _∙_}
+use lib.ListN.{length}
 use borrow.Author.Needs.{needs}
-use Rattle.simulate_rows.proofs.Wide.{told-five, told-four, told-rows, told-step}
+use Rattle.simulate_rows.proofs.Steps.{flows-fit, moves-fit, record-row-fits, next-row-fits}
 use Rattle.simulate_rows.proofs.inner.step.Statement.{statement}
 use Rattle.simulate_rows.proofs.inner.step.Tie as tie
 
-step-wide-requires : tie.Need-step-wide-requires
-step-wide-requires c κs =
-    let t = c .before .before in
-    let k = t .before .before .before .before .before .before in
-    told-rows _ _ (told-five _ (k .pre .0 .wide) (omega (arith, t .if1 .taken))) _ _ _ _ _ (k .args .row .now) (k .pre .0) (k .pre .1)
+move-row-requires : tie.Need-move-row-requires
+move-row-requires c κs =
+    let f = c .before .before .before .before .before in
+    let k = f .before .before .before .before .before .before .before .before .before in
+    (moves-fit _ _ _ _ _ _ _ (f .flow-row .ensures) (k .pre .0 .0), k .pre .1 .0, k .pre .1 .1)
 
 returns : tie.Need-returns
-returns c =
-    let s = c .before .before .before .before in
-    let t = s .before .before .before in
-    let k = t .before .before .before .before .before .before in
-    told-step _ _ (told-five _ (k .pre .0 .wide) (omega (arith, t .if1 .taken))) _ _ _ _ _ _ _ _ _ (s .step-wide .ensures)
-
-step-narrow-requires : tie.Need-step-narrow-requires
-step-narrow-requires c κs =
-    let t = c .before .before in
-    let k = t .before .before .before .before .before .before in
-    told-rows _ _ (told-four _ (k .pre .0 .wide) (omega (arith, t .if1 .left))) _ _ _ _ _ (k .args .row .now) (k .pre .0) (k .pre .1)
-
-returns-2 : tie.Need-returns-2
-returns-2 c =
-    let s = c .before .before .before .before in
-    let t = s .before .before .before in
-    let k = t .before .before .before .before .before .before in
-    told-step _ _ (told-four _ (k .pre .0 .wide) (omega (arith, t .if1 .left))) _ _ _ _ _ _ _ _ _ (s .step-narrow .ensures)
+returns c = record { passed = c .before .before .before .before .before .before .before .before .before .before .flow-row .ensures; gives = c .before .before .before .before .move-row .ensures }
 
 pub step-spec : {M : Type 1} → statement M
 step-spec =
     tie.close
     (tie.spec
-    step-wide-requires
-    (λ c. search needs)
-    (λ c. search needs)
-    returns
-    step-narrow-requires
-    (λ c. search needs)
-    (λ c. search needs)
-    returns-2)
+    (λ c κs. search needs)
+    move-row-requires
+    (λ c. ap length (c .before .before .before .before .move-row .ensures .moves) ∙ next-row-fits _ _ _ _ ∙ sym (c .before .before .before .before .before .before .before .before .before .before .before .before .before .before .before .before .before .before .before .pre .0 .0 .stateFits))
+    (λ c. flows-fit _ _ _ _ _ _ _ (c .before .before .before .before .before .before .before .before .before .before .flow-row .ensures) ∙ sym (c .before .before .before .before .before .before .before .before .before .before .before .before .before .before .before .before .before .before .before .pre .0 .1))
+    (λ c. ap length (c .before .before .before .before .move-row .ensures .written) ∙ record-row-fits _ _ _ _ _ ∙ sym (c .before .before .before .before .before .before .before .before .before .before .before .before .before .before .before .before .before .before .before .pre .1 .0))
+    returns)

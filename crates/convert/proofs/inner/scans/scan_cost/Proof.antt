@@ -6,15 +6,14 @@ use Rattle.convert.proofs.inner.scans.scan_cost.Statement.{statement}
 use Rattle.convert.proofs.inner.scans.scan_cost.Tie as tie
 
 returns : tie.Need-returns
-returns c =
-    let k = c .before .before .before .before .before .before in
-    cost-told _ _ _ _ _ _ (k .args .words .now) _ (c .before .total-fault .ensures) (omega (arith, k .pre .3)) (c .before .before .before .before .total-cost .ensures) (c .refusal .ensures)
+returns c width links steps known =
+    let k = c .before .before .before .before .before in
+    cost-told _ _ _ _ _ _ (k .args .words .now) _ (c .before .total-fault .ensures) (omega (arith, known .fits)) (known .is) (c .refusal .ensures)
 
 pub scan-cost-spec : {M : Type 1} → statement M
 scan-cost-spec =
     tie.close
     (tie.spec
-    (λ c κs. search needs)
     (λ c. search needs)
     (λ c. search needs)
     (λ c. search needs)

@@ -22,7 +22,7 @@ step-answer-requires : tie.Need-step-answer-requires Inv-loop μ-loop
 step-answer-requires c κs =
     let l = c .before in
     let k = l .before .before .before .before .before in
-    (k .pre .0, (k .pre .1, (omega arith, l .loop .inv .small, l .loop .inv .gains)))
+    (k .pre .0, (k .pre .1, (omega arith, l .loop .inv .gaining .small, l .loop .inv .gaining .is)))
 
 outflow-at-requires : tie.Need-outflow-at-requires Inv-loop μ-loop
 outflow-at-requires c κs =

@@ -5,38 +5,36 @@ use Rattle.simulate.proofs.Runs.{Inside, rows-inside, rows-fit, row-len
 use Rattle.simulate.proofs.inner.run.step_at.Statement.{statement}
 use Rattle.simulate.proofs.inner.run.step_at.Tie as tie
 
-inside : (c : tie.After-row-at)
-    → Inside (c .before .before .before .before .before .before .before .before .args .demands .now) (c .before .before .before .before .before .before .before .before .args .plan .now)
-    (c .before .before .links-of .result) (c .row-at .result)
+inside : (c : tie.After-row-at) → Inside (c .before .before .before .before .before .before .before .before .before .before .args .demands .now) (c .before .before .before .before .before .before .before .before .before .before .args .plan .now) (c .before .before .links-of .result) (c .row-at .result)
 inside c =
     let n = c .before .before in
-    let k = n .before .before .before .before .before .before in
-    rows-inside _ (k .pre .0 .1) _ _ _ _ _ _ (k .pre .0 .0) (n .links-of .ensures) (k .pre .1 .0) (c .row-at .ensures .0)
+    let k = n .before .before .before .before .before .before .before .before in
+    rows-inside _ _ _ _ _ _ (k .pre .0 .0) (n .links-of .ensures) (k .pre .0 .1) (c .row-at .ensures .0)
 
 downstream-at-requires : tie.Need-downstream-at-requires
 downstream-at-requires c κs =
     let n = c .before .before in
-    let k = n .before .before .before .before .before .before in
-    demands-read _ (k .pre .0 .1) _ _ _ _ _ _ (k .pre .0 .0) (n .links-of .ensures) (k .pre .1 .0) (c .row-at .ensures .0) _ (c .before .steps-of .ensures)
+    let k = n .before .before .before .before .before .before .before .before in
+    demands-read _ _ _ _ _ _ (k .pre .0 .0) (n .links-of .ensures) (k .pre .0 .1) (c .row-at .ensures .0) _ (c .before .steps-of .ensures)
 
 step-requires : tie.Need-step-requires
 step-requires c κs =
-    let r = c .before .before .before .before .before in
+    let r = c .before .before .before .before .before .before in
     let n = r .before .before in
-    let k = n .before .before .before .before .before .before in (
-      rows-fit _ (k .pre .0 .1) _ _ _ _ _ _ (k .pre .0 .0) (n .links-of .ensures) (k .pre .1 .0) (r .row-at .ensures .0) _ (k .pre .1 .1 .0),
-      row-lent _ _ (k .args .row .now) _ (n .links-of .ensures) (k .pre .1 .1 .1),
+    let k = n .before .before .before .before .before .before .before .before in (
+      rows-fit _ _ _ _ _ _ (k .pre .0 .0) (n .links-of .ensures) (k .pre .0 .1) (r .row-at .ensures .0) _ _ _ (k .pre .1 .0),
+      (row-lent _ _ (k .args .row .now) _ (n .links-of .ensures) (k .pre .1 .1 .0), k .pre .1 .1 .1),
     )
 
 returns : tie.Need-returns
 returns c =
-    let s = c .before .before .before .before in
-    let d = s .before .before .before .before .before in
+    let s = c .before .before .before .before .before .before in
+    let d = s .before .before .before .before .before .before in
     let r = d .before in
     let n = r .before .before in
-    let k = n .before .before .before .before .before .before in
-    step-ran _ (k .pre .0 .1) _ _ _ _ _ _ (k .pre .0 .0) (n .links-of .ensures) (k .pre .1 .0) (r .row-at .ensures .0) _ (k .pre .1 .1 .0) _ _
-    (r .before .steps-of .ensures) (d .downstream-at .ensures) _ _ _ (s .step .ensures)
+    let k = n .before .before .before .before .before .before .before .before in
+    step-ran _ _ _ _ _ _ (k .pre .0 .0) (n .links-of .ensures) (k .pre .0 .1) (r .row-at .ensures .0) _ _ _ (k .pre .1 .0) _ _ _
+    (r .before .steps-of .ensures) (d .downstream-at .ensures) _ _ _ _ (s .step .ensures)
 
 pub step-at-spec : {M : Type 1} → statement M
 step-at-spec =
@@ -60,6 +58,7 @@ step-at-spec =
     (λ c. search all)
     (λ c. omega (arith, inside (c .before .before)))
     step-requires
+    (λ c. search all)
     (λ c. search all)
     (λ c. search all)
     returns)
