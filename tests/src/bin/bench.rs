@@ -23,6 +23,7 @@ const FEW_STEPS: usize = 20;
 const SEARCHED: (u32, u32) = (720, 32);
 
 /// The lists that the work is done on.
+#[derive(Clone)]
 struct Lists {
     corridor: Vec<u32>,
     demands: Vec<u32>,
@@ -178,6 +179,34 @@ fn bench_files(oldest: &Lists, newest: &Lists) {
     }
 }
 
+/// The check of three files. The Rust beside it reads them into lists that are there already, and
+/// then checks the lists.
+#[cfg(feature = "files")]
+fn bench_check_files(lists: &Lists, kinds: Kinds, kind: &str) {
+    use tests::calls::FileCalls;
+    use tests::random::files::file_of;
+    let files = [
+        file_of(kinds.corridor, &lists.corridor),
+        file_of(kinds.demands, &lists.demands),
+        file_of(kinds.record, &lists.record),
+    ];
+    let read = |kind: Kind, i: usize, words: &mut [u32]| {
+        Yardstick.read(kind.list(), 64, 1_440, &files[i], words)
+    };
+    let Lists { mut corridor, mut demands, mut record, .. } = lists.clone();
+    compare::<u32>(
+        &format!("check of files, {kind}"),
+        0,
+        &mut |_| Host.check_files(64, 1_440, [&files[0], &files[1], &files[2]]),
+        &mut |_| {
+            let readers = read(kinds.corridor, 0, &mut corridor)
+                + read(kinds.demands, 1, &mut demands)
+                + read(kinds.record, 2, &mut record);
+            readers + Yardstick.check(&corridor, &demands, &record)
+        },
+    );
+}
+
 fn main() {
     let full = |kinds| lists(full_size(), kinds);
     let oldest = full(Kinds::OLDEST);
@@ -189,8 +218,13 @@ fn main() {
     let drop = Kinds { corridor: Kind::CapacityDrop, ..Kinds::OLDEST };
     bench_words(&full(drop), "corridor of kind 10");
     let off_ramps = Kinds { record: Kind::OffRamps, ..Kinds::OLDEST };
-    bench_words(&full(off_ramps), "record of kind 7");
+    let with_exits = full(off_ramps);
+    bench_words(&with_exits, "record of kind 7");
     bench_every_rate(&lists(Size { steps: FEW_STEPS, ..full_size() }, Kinds::OLDEST));
     #[cfg(feature = "files")]
-    bench_files(&oldest, &full(Kinds::NEWEST));
+    {
+        bench_check_files(&oldest, Kinds::OLDEST, "record of kind 3");
+        bench_check_files(&with_exits, off_ramps, "record of kind 7");
+        bench_files(&oldest, &full(Kinds::NEWEST));
+    }
 }
