@@ -17,12 +17,11 @@ use Rattle.tables.proofs.Tests.{and-iff}
 use Rattle.faults.specs.Lists.{within}
 use Rattle.block.specs.declared.Kind.{Kind}
 use Rattle.block.specs.declared.Kind.the-variants.{Corridor, CorridorDrop, Demands, DemandsDownstream, Record, RecordExits, Plan}
-use Rattle.payload.specs.Word.{Words}
-use Rattle.payload.specs.File.{blocksFor, payloadWord, payloadPart, payloadOf, putPayload, fileOf}
+use Rattle.payload.specs.File.{blocksFor, payloadWord, payloadPart, payloadOf, fileOf}
 use Rattle.seals.specs.Reading.{payloadAnswer}
 use Rattle.block.specs.Kinds.{Told, kindNumber, listLength, ownAgrees}
 use Rattle.block.specs.Calls.{toldFits, fileAnswer, readAnswer, wordsRead, writeAnswer, fileWritten}
-use Rattle.payload.proofs.Payloads.{payload-all, payload-put-all, put-length-same}
+use Rattle.payload.proofs.Payloads.{payload-all}
 use Rattle.seals.proofs.Refusals.{payload-kept}
 
 -- ---- tests
@@ -226,15 +225,10 @@ module _ (kind : Kind) (n k : ℕ) (words lent : List ℕ) (a : Answer) (e : a �
   write-left h = left-refused a _ _ lent e h
 
   module _ (h : a ≡ Accepted) where
-    write-room : length lent ≡ blocksFor (length words) * 512
+    pub write-room : length lent ≡ blocksFor (length words) * 512
     write-room =
         let p = write-kept kind n k words (length lent) .0 (sym e ∙ h) in
         p .fits ∙ ap (λ (m : ℕ). blocksFor m * 512) (sym (p .list))
-
-    pub put-fits : blocksFor (0 + length words) * 512 ≤ length lent
-    put-fits =
-        let r : length lent ≡ blocksFor (length words) * 512 = write-room in
-        omega arith
 
     pub write-words : length words ≤ 4294967295
     write-words =
@@ -242,17 +236,9 @@ module _ (kind : Kind) (n k : ℕ) (words lent : List ℕ) (a : Answer) (e : a �
         let l : length words ≡ listLength kind n k = p .list in
         omega (arith, length-high kind n k (told-is n k (toldFits n k) refl (p .told)))
 
-    module _ (x : List ℕ) (u : x ≡ putPayload lent 0 words) where
-      pub put-room : length x ≡ blocksFor (length words) * 512
-      put-room = ap length u ∙ put-length-same lent 0 words ∙ write-room
-
-      pub write-file : Words words → (number : ℕ) → number ≡ kindNumber kind → (l : List ℕ) → l ≡ fileOf number (payloadOf (length words) x)
-          → l ≡ fileWritten kind n k words lent
-      unfolding fileWritten
-      write-file w number v l s =
-          let r : length lent ≡ blocksFor (length words) * 512 = write-room in
-          let y : payloadOf (length words) x ≡ words = ap (payloadOf (length words)) u ∙ payload-put-all lent words w (omega arith) in
-          left-accepted a _ _ lent l e h (s ∙ rw (v, y))
+    pub write-file : (number : ℕ) → number ≡ kindNumber kind → (l : List ℕ) → l ≡ fileOf number words → l ≡ fileWritten kind n k words lent
+    unfolding fileWritten
+    write-file number v l s = left-accepted a _ _ lent l e h (s ∙ ap (λ (x : ℕ). fileOf x words) v)
 
 -- a bad N or K leaves the file as lent, whatever the kind: b and s as above
 pub write-told-left : (kind : Kind) (n k : ℕ) (words lent : List ℕ) (b : Bool) → b ≡ toldFits n k → (s : Answer) → s ≡ sized b → Refuses s

@@ -2,20 +2,21 @@
 use mathlib.Core.Bool.{cond}
 use mathlib.Core.List.{List}
 use mathlib.Core.Path.{_≡_, refl, sym, ap, _∙_, subst}
-use Prim.Native.Nat.{ℕ, zero, suc, _+_, _-_, _*_, _≤_, _<_}
+use Prim.Native.Nat.{ℕ, zero, suc, _+_, _-_, _*_, _≤_, _<_, min}
 use native.Mathlib.Decide.{decLt}
 use native.Mathlib.Omega.{arith}
 use borrow.Author.Tests.{lt-ltb, le-ltb}
 use borrow.Rule.Slice.PartMut.{putMid}
 use lib.Dec.{ltb, lit<}
-use lib.ListN.{length, getD, take, drop}
+use lib.ListN.{length, getD, take, drop, List·getD-eq-default}
 use Rattle.tables.specs.Grid.{cell}
-use Rattle.tables.proofs.Grid.{rowWords-is, cell-same, Rowed, rowed-words, rowed-grid}
-use Rattle.tables.proofs.Part.{part-at}
+use Rattle.tables.proofs.Grid.{rowWords-is, rowWords-same, cell-same, Rowed, rowed-words, rowed-grid}
+use Rattle.tables.proofs.Part.{part-length, part-at}
 use Rattle.tables.proofs.Tabulate.{tabulate-length, tabulate-at, tabulate-past, filled-rest}
-use Rattle.payload.specs.Word.{Bytes, byteOf, wordAt, putWord}
+use Rattle.payload.specs.Word.{Bytes, Words, byteOf, wordAt, putWord}
 use Rattle.payload.specs.Block.{checkWord, bodyWord, blockWord, blockByte, blockOf}
-use Rattle.payload.specs.File.{blocksFor, wordIn, payloadIn, payloadPlace, payloadWord, payloadOf, Cleared, keptWord, fileOf}
+use Rattle.payload.specs.File.{blocksFor, wordIn, payloadIn, payloadPlace, payloadWord, payloadOf, putPayload, Cleared, keptWord, fileOf}
+use Rattle.payload.proofs.Payloads.{payload-put-all}
 use Rattle.payload.proofs.Words.{byte-word, word-same, put-word-length, word-put, word-other}
 use Rattle.seals.proofs.Checks.{check-fits, check-same}
 
@@ -177,6 +178,60 @@ module _ (kind number left : ℕ) (d a b c l : List ℕ) (n : length d ≡ 512) 
 abbrev pub fileByte : ℕ → List ℕ → ℕ → ℕ → ℕ
 fileByte kind words t = cell 4 (blockByte kind t (payloadIn words t))
 
+-- one more block is lent, and comes back as ys
+block-more : (t blocks kind at : ℕ) (words d l ys : List ℕ) (p : ℕ → ℕ) → Rowed t blocks 512 (fileByte kind words) d l → t < blocks → at ≡ t * 512 → ys ≡ blockOf kind t p
+    → ((i : ℕ) → i < 125 → p i ≡ payloadIn words t i) → Rowed (t + 1) blocks 512 (fileByte kind words) d (putMid at (at + 512 - at) l ys)
+unfolding blockOf
+block-more t blocks kind at words d l ys p a h e y same =
+    rowed-words t blocks 512 (fileByte kind words) d l at 4 128 (blockByte kind t p) ys a h e y (omega arith)
+    (λ j b. cell-same 4 128 (blockByte kind t p) (blockByte kind t (payloadIn words t))
+    (λ i q s r. ap (λ (w : ℕ). byteOf w q) (block-same kind t p (payloadIn words t) same i s))
+    j (omega arith))
+
+pub file-ended : (t blocks kind : ℕ) (words d l : List ℕ) → Rowed t blocks 512 (fileByte kind words) d l → blocks ≤ t → blocks ≡ blocksFor (length words) → l ≡ fileOf kind words
+unfolding fileOf
+file-ended t blocks kind words d l a h e =
+    rowed-grid t (blocksFor (length words)) 512 4 128 (λ t. blockByte kind t (payloadIn words t)) d l
+    (subst (λ (b : ℕ). Rowed t b 512 (fileByte kind words) d l) e a) (omega arith) (omega arith)
+
+-- ---- a file that is written: a block's words are put, and then it is sealed
+
+-- b is the block with its words put
+pub block-written : (kind number : ℕ) (d b words ys : List ℕ) → length d ≡ 512 → length words ≤ 125 → Words words → b ≡ putPayload d 0 words
+    → ys ≡ blockOf kind number (keptWord b (length words)) → ys ≡ blockOf kind number (λ i. getD words i 0)
+unfolding blockOf keptWord payloadWord
+block-written kind number d b words ys n few fits put e =
+    e ∙ rowWords-same 4 128 _ _ (λ j q s r. ap (λ (w : ℕ). byteOf w q) (block-same kind number (keptWord b (length words)) (λ i. getD words i 0) kept j s))
+  where
+    put-all : payloadOf (length words) b ≡ words
+    put-all = ap (payloadOf (length words)) put ∙ payload-put-all d words fits (omega arith)
+
+    kept : (i : ℕ) → i < 125 → keptWord b (length words) i ≡ getD words i 0
+    kept i h =
+        elim (decLt i (length words)) [
+          | yes s ↦
+              let p : payloadPlace i ≡ 2 + i = omega arith in
+              rw (lt-ltb i (length words) s)
+              (ap (wordAt b) (sym p) ∙ sym (tabulate-at (length words) (payloadWord b) i 0 s) ∙ ap (λ (x : List ℕ). getD x i 0) put-all)
+          | no s ↦ rw (le-ltb i (length words) (omega arith)) (sym (List·getD-eq-default words 0 (omega arith)))
+        ]
+
+-- n words of a payload from word t * 125 on are put in block t: 125, or those that are left
+pub written-more : (t blocks kind at from n : ℕ) (words d l ys : List ℕ) → Rowed t blocks 512 (fileByte kind words) d l → t < blocks → at ≡ t * 512 → from ≡ t * 125 → n ≡ min 125 (length words - t * 125)
+    → blocks ≡ blocksFor (length words) → ys ≡ blockOf kind t (λ i. getD (take (from + n - from) (drop from words)) i 0)
+    → Rowed (t + 1) blocks 512 (fileByte kind words) d (putMid at (at + 512 - at) l ys)
+written-more t blocks kind at from n words d l ys a h e f c b y =
+    block-more t blocks kind at words d l ys _ a h e y
+    (λ i g.
+    elim (decLt i n) [
+      | yes s ↦ part-at from n words i 0 s ∙ ap (λ (k : ℕ). getD words (k + i) 0) f
+      | no s ↦
+          List·getD-eq-default (take (from + n - from) (drop from words)) 0 (omega (arith, part-length from n (length words) words (omega arith) refl))
+          ∙ sym (List·getD-eq-default words 0 (omega arith))
+    ])
+
+-- ---- a file whose payload stands: each block is sealed
+
 -- block t is lent and still as it was in d
 module _ (t blocks m kind at : ℕ) (d l : List ℕ) (a : Rowed t blocks 512 (fileByte kind (payloadOf m d)) d l) (e : at ≡ t * 512) where
   part : List ℕ
@@ -201,17 +256,9 @@ module _ (t blocks m kind at : ℕ) (d l : List ℕ) (a : Rowed t blocks 512 (fi
 
   pub blocks-more : (ys : List ℕ) → t < blocks → ys ≡ blockOf kind t (keptWord (take (at + 512 - at) (drop at l)) (m - t * 125))
       → Rowed (t + 1) blocks 512 (fileByte kind (payloadOf m d)) d (putMid at (at + 512 - at) l ys)
-  unfolding blockOf part
-  blocks-more ys h y =
-      rowed-words t blocks 512 (fileByte kind (payloadOf m d)) d l at 4 128 (blockByte kind t (keptWord part (m - t * 125))) ys a h e y (omega arith)
-      (λ j b. cell-same 4 128 (blockByte kind t (keptWord part (m - t * 125))) (blockByte kind t (payloadIn (payloadOf m d) t))
-      (λ i q s r. ap (λ (w : ℕ). byteOf w q) (block-same kind t (keptWord part (m - t * 125)) (payloadIn (payloadOf m d) t) kept-payload i s))
-      j (omega arith))
+  unfolding part
+  blocks-more ys h y = block-more t blocks kind at (payloadOf m d) d l ys _ a h e y kept-payload
 
 pub blocks-ended : (t blocks m kind : ℕ) (d l : List ℕ) → Rowed t blocks 512 (fileByte kind (payloadOf m d)) d l → blocks ≤ t → blocks ≡ blocksFor m
     → l ≡ fileOf kind (payloadOf m d)
-unfolding fileOf
-blocks-ended t blocks m kind d l a h e =
-    let q : blocks ≡ blocksFor (length (payloadOf m d)) = e ∙ ap blocksFor (sym (tabulate-length m (payloadWord d))) in
-    rowed-grid t (blocksFor (length (payloadOf m d))) 512 4 128 (λ t. blockByte kind t (payloadIn (payloadOf m d) t)) d l
-    (subst (λ (b : ℕ). Rowed t b 512 (fileByte kind (payloadOf m d)) d l) q a) (omega arith) (omega arith)
+blocks-ended t blocks m kind d l a h e = file-ended t blocks kind (payloadOf m d) d l a h (e ∙ ap blocksFor (sym (tabulate-length m (payloadWord d))))

@@ -113,8 +113,7 @@ pub fn write_list(kind: Kind, n: u32, k: u32, words: &[u32], file: &mut [u8]) ->
     if is_refused(answer) {
         return answer;
     }
-    place::put(file, 0, words);
-    sealing::seal(kinds::number_of(kind), words.len(), file);
+    sealing::write(kinds::number_of(kind), words, file);
     answer
 }
 
