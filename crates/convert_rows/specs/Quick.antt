@@ -9,7 +9,7 @@ use Rattle.road.specs.Run.{supply, inflow}
 use Rattle.settings.specs.Share.{Permitted}
 use Rattle.record_faults.specs.Records.{exitKept}
 use Rattle.lists.specs.Rows.{stateIn, flowsIn, exitIn, stepRoad}
-use Rattle.link_table.specs.Table.{linkIn, rampIn, tableOf, tableRoad}
+use Rattle.link_table.specs.Table.{rampIn, tableOf, tableRoad, junctionIn}
 use Rattle.simulate_rows.specs.Rows.{rowCost}
 use Rattle.convert_rows.specs.Rows.{RowsKept}
 
@@ -37,16 +37,7 @@ pub record NodeHeld (width : ℕ) (demand row : List ℕ) (gained i : ℕ) : Typ
 
 -- 8, 9 and 10 are not due at node i, where S is `supply`
 abbrev pub FlowsFit : ℕ → List ℕ → List ℕ → List ℕ → ℕ → ℕ → Type 0
-FlowsFit width table demand row supply i =
-    Permitted
-    (record {
-      link = linkIn table i;
-      ramp = rampIn table i;
-      state = stateIn width row i;
-      split = getD demand (i * 2 + 1) 0;
-      supply = supply;
-    })
-    (flowsIn width row i)
+FlowsFit width table demand row supply i = Permitted (junctionIn width table demand row supply i) (flowsIn width row i)
 
 -- nor at any node
 abbrev pub FlowsKept : ℕ → List ℕ → List ℕ → ℕ → List ℕ → ℕ → Type 0

@@ -4,7 +4,9 @@ use mathlib.Core.List.{List, [], _∷_}
 use lib.ListN.{getD, set}
 use Rattle.tables.specs.Grid.{rowWords}
 use Rattle.road.specs.Corridor.{Link, Ramp, Road}
+use Rattle.road.specs.Step.{Junction}
 use Rattle.lists.specs.Words.{nodeAt}
+use Rattle.lists.specs.Rows.{stateIn}
 
 -- the words of a node
 abbrev pub linkWords : Link → Ramp → List ℕ
@@ -46,3 +48,8 @@ tableRoad table links row downstream =
       split = λ k i. getD row (i * 2 + 1) 0;
       downstream = λ k. downstream;
     }
+
+-- what rules 1 to 5 ask of node i in the state that a row gives, `width` words a node, where its supply is told
+abbrev pub junctionIn : ℕ → List ℕ → List ℕ → List ℕ → ℕ → ℕ → Junction
+junctionIn width table demand row supply i =
+    record { link = linkIn table i; ramp = rampIn table i; state = stateIn width row i; split = getD demand (i * 2 + 1) 0; supply = supply }

@@ -8,12 +8,12 @@ use lib.Dec.{ltb}
 use lib.ListN.{getD, set}
 use Rattle.tables.specs.Grid.{rowWords}
 use Rattle.road.specs.Corridor.{NodeState, Flows}
-use Rattle.road.specs.Step.{Junction, exit, flowsWith, outflow, moved}
+use Rattle.road.specs.Step.{exit, flowsWith, outflow, moved}
 use Rattle.road.specs.Run.{junction, next, noFlow, stateCost}
 use Rattle.lists.specs.Words.{nodeAt, nodeWord}
 use Rattle.lists.specs.Rows.{stateIn, stepRoad}
 use Rattle.lists.specs.Fits.{RowFits}
-use Rattle.link_table.specs.Table.{linkIn, rampIn, tableRoad}
+use Rattle.link_table.specs.Table.{linkIn, tableRoad, junctionIn}
 
 -- a row of nodes 0..N with these states, flows and off-ramp flows; flows have words where the width is 4, off-ramp flows where it is 5
 unfoldable pub rowOf : ℕ → ℕ → (ℕ → NodeState) → (ℕ → Flows) → (ℕ → ℕ) → List ℕ
@@ -39,16 +39,11 @@ startRow corridor links = restRow 2 links (λ i. nodeAt corridor i .start)
 
 -- ---- rules 1 to 5
 
--- what they ask of node i, whose supply is told
-abbrev pub junctionIn : List ℕ → List ℕ → List ℕ → ℕ → ℕ → Junction
-junctionIn table demand state supply i =
-    record { link = linkIn table i; ramp = rampIn table i; state = stateIn 2 state i; split = getD demand (i * 2 + 1) 0; supply = supply }
-
--- its flows, at the rate and limit of a plan's row
+-- the flows of node i from a state, at the rate and limit of a plan's row, where its supply is told
 abbrev pub flowsFrom : List ℕ → List ℕ → List ℕ → List ℕ → ℕ → ℕ → Flows
-flowsFrom table demand plan state supply i = flowsWith (junctionIn table demand state supply i) (getD plan (i * 2 + 0) 0) (getD plan (i * 2 + 1) 0)
+flowsFrom table demand plan state supply i = flowsWith (junctionIn 2 table demand state supply i) (getD plan (i * 2 + 0) 0) (getD plan (i * 2 + 1) 0)
 
--- the flows of node i from a state, at the rate and limit of a plan's row
+-- and where it is the receiving of the next link, or what may pass beyond link N
 unfoldable pub rowFlows : List ℕ → ℕ → List ℕ → ℕ → List ℕ → List ℕ → ℕ → Flows
 rowFlows table links demand downstream plan state i =
     flowsWith (junction (tableRoad table links demand downstream) 0 (stateIn 2 state) i) (getD plan (i * 2 + 0) 0) (getD plan (i * 2 + 1) 0)
