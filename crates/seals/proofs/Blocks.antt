@@ -109,18 +109,23 @@ clearing-more i left d l l′ a h n e =
       others = λ j b. ap (λ (x : List ℕ). wordAt x j) e ∙ word-other l (2 + i) 0 j (λ t. omega (arith, a .from)) ∙ a .others j b;
     }
 
-pub clearing-ended : (i left : ℕ) (d l : List ℕ) → Clearing i left d l → 125 ≤ i → Cleared d left l
+-- the word that is put in the place of the check word has no part in what is promised
+pub clearing-ended : (i left : ℕ) (d l l′ : List ℕ) → Clearing i left d l → 125 ≤ i → l′ ≡ putWord l 127 0 → Cleared d left l′
 unfolding keptWord
-clearing-ended i left d l a h =
+clearing-ended i left d l l′ a h e =
     record {
-      same = a .same;
-      head = λ j b. a .others j (omega arith);
+      same = ap length e ∙ put-word-length l 127 0 ∙ a .same;
+      head = λ j b. before j (omega arith) ∙ a .others j (omega arith);
       payload = λ k b.
-          elim (decLt k left) [
+          before (2 + k) (omega arith)
+          ∙ elim (decLt k left) [
             | yes s ↦ a .others (2 + k) (omega arith) ∙ sym (rw (lt-ltb k left s) refl)
             | no s ↦ a .zeros k (omega arith) (omega arith) ∙ sym (rw (le-ltb k left (omega arith)) refl)
           ];
     }
+  where
+    before : (j : ℕ) → j < 127 → wordAt l′ j ≡ wordAt l j
+    before j b = ap (λ (x : List ℕ). wordAt x j) e ∙ word-other l 127 0 j (λ t. omega arith)
 
 -- ---- a sealed block: a, b, c and l are the block as each call left it
 

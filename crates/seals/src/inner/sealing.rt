@@ -8,7 +8,8 @@ use crate::inner::reading;
 use payload::inner::place;
 use payload::inner::words;
 
-// The padding: zeros from payload word `left` of a block on.
+// The padding: zeros from payload word `left` of a block on. So is the check word until it is known: `check_word` reads all words of a block,
+// and what it finds must not be bytes that nobody has set.
 fn clear(block: &mut [u8], left: usize)
     requires { ⌜ length (now block) ≡ 512 ⌝ }
     ensures { λ _. ⌜ Cleared (now (block .entry)) left (now (block .exit)) ⌝ }
@@ -18,6 +19,7 @@ fn clear(block: &mut [u8], left: usize)
         words::put_word(block, 2 + i, 0);
         i += 1;
     }
+    words::put_word(block, 127, 0);
 }
 
 // One block, whose first `left` payload words stand.

@@ -24,4 +24,5 @@ clear-spec =
     (λ c. search needs)
     (λ c. search clearing-more)
     (λ c. search needs)
+    (λ c. search needs)
     (λ c. search clearing-ended))
