@@ -1,4 +1,5 @@
 // Block files: a reader and a writer of corridors, of demands, of records and of plans, told N and K.
+#![tactic(auto)]
 pub mod inner;
 
 ghost use Rattle.std.specs.Prelude.{◌≡◌, length};
@@ -10,7 +11,7 @@ use inner::calls;
 use tables::Answer;
 
 // What a file holds.
-#[derive(Drop)]
+#[derive(Clone, Copy)]
 pub enum Kind {
     Corridor,
     // A corridor with dropped capacity and drop density at each node's end.

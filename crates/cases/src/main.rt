@@ -2,6 +2,7 @@
 // what is said, then what is told. Other lines are printed as they are; a number sign begins a section, and its first lines tell its lists.
 // The text is read in parts, so that only each section alone has to fit the room that it is read into.
 // The greatest files of all, of 64 links and 1,440 steps, are too long for a local array here: the Rust tests run those.
+#![tactic(auto)]
 use libc::STDIN_FILENO;
 use trial::line::Sought;
 use trial::{content, line, say};

@@ -1,2 +1,3 @@
 // Checker and converter on the rows of one step.
+#![tactic(auto)]
 pub mod inner;

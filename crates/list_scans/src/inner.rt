@@ -17,7 +17,7 @@ use tables::{Answer, is_refused, refusal};
 pub mod identifiers;
 
 // What is looked for at a node: refusals 2, 3 and 4 in the corridor's words, 5 in a row of the demands, 6 in a row of a plan.
-#[derive(Drop)]
+#[derive(Clone, Copy)]
 pub enum NodeTest {
     Link,
     Ramp,
@@ -198,7 +198,7 @@ pub fn clear(row: &[u32], most: &[u32], downstream: Units) -> bool
 }
 
 // What bounds the two words of a node.
-#[derive(Drop)]
+#[derive(Clone, Copy)]
 struct Most {
     first: u32,
     second: u32,

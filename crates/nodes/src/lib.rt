@@ -1,4 +1,5 @@
 // The corridor taken as a list of nodes, one record each: each call has the answer and the lent lists of its list version.
+#![tactic(auto)]
 ghost use Rattle.std.specs.Prelude.{◌≡◌, length};
 ghost use Rattle.simulate.specs.Simulate.{simulate_answer, record_left};
 ghost use Rattle.convert.specs.Convert.{check_answer, convert_answer, normal_answer, plan_left, work_left, normal_left};
@@ -11,7 +12,7 @@ pub mod inner;
 
 // A node of the corridor, its words in the order of kind 10.
 #[repr(C)]
-#[derive(Drop)]
+#[derive(Clone, Copy)]
 pub struct Node {
     pub identifier: u32,
     pub capacity: u32,

@@ -1,20 +1,21 @@
 // The values of one step of one node, in the units of document 01, each in a type of its own so that none stands in for another.
+#![tactic(auto)]
 pub mod inner;
 
 // A vehicle count or a flow per step, in 1/64 vehicle.
-#[derive(Drop)]
+#[derive(Clone, Copy)]
 pub struct Units(pub u32);
 
 // A speed, in 1/65,536 section per step.
-#[derive(Drop)]
+#[derive(Clone, Copy)]
 pub struct Speed(pub u32);
 
 // A split, in parts of 65,536.
-#[derive(Drop)]
+#[derive(Clone, Copy)]
 pub struct Parts(pub u32);
 
 // A link: F, V, W, J, dropped capacity and drop density.
-#[derive(Drop)]
+#[derive(Clone, Copy)]
 pub struct Link {
     pub capacity: Units,
     pub full_speed: Speed,
@@ -25,21 +26,21 @@ pub struct Link {
 }
 
 // An on-ramp: C and L.
-#[derive(Drop)]
+#[derive(Clone, Copy)]
 pub struct Ramp {
     pub capacity: Units,
     pub queue_limit: Units,
 }
 
 // The vehicles n of a node's link and the queue l of its ramp.
-#[derive(Drop)]
+#[derive(Clone, Copy)]
 pub struct NodeState {
     pub vehicles: Units,
     pub queue: Units,
 }
 
 // What rules 1 to 5 ask of a node at a step: its link, its ramp, their state, the split b and the supply S.
-#[derive(Drop)]
+#[derive(Clone, Copy)]
 pub struct Junction {
     pub link: Link,
     pub ramp: Ramp,
@@ -49,14 +50,14 @@ pub struct Junction {
 }
 
 // The mainline flow f and the ramp flow r of a node.
-#[derive(Drop)]
+#[derive(Clone, Copy)]
 pub struct Flows {
     pub main: Units,
     pub ramp: Units,
 }
 
 // What a record says of the flow that leaves by a node's off-ramp: nothing in kind 3, which has no word for it, and a flow in kind 7.
-#[derive(Drop)]
+#[derive(Clone, Copy)]
 pub enum Exit {
     Unsaid,
     Said(Units),

@@ -14,7 +14,7 @@ use settings::{Found, Search};
 use tables::{Answer, is_refused, sized};
 
 // One node in one step of a record: what rules 1 to 5 ask of it, and its flows.
-#[derive(Drop)]
+#[derive(Clone, Copy)]
 pub struct Place {
     pub junction: Junction,
     pub flows: Flows,

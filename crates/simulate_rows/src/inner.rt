@@ -78,7 +78,7 @@ fn plan_flows(
     supply: Units,
     i: usize,
 ) -> Flows
-    requires node_in_lem { NodeIn 8 table.now i × NodeIn 2 demand.now i × NodeIn 2 plan.now i × NodeIn 2 state.now i }
+    requires node_in { NodeIn 8 table.now i × NodeIn 2 demand.now i × NodeIn 2 plan.now i × NodeIn 2 state.now i }
     requires i_bound { get_or demand.now (i * 2 + 1) 0 ≤ 65536 }
     ensures { flows_of result ≡ flows_from table.now demand.now plan.now state.now supply.0 i }
 {
@@ -125,7 +125,7 @@ fn load(state: NodeState) -> u64
 }
 
 // What a node passes on, and the vehicles and the queue that it then has.
-#[derive(Drop)]
+#[derive(Clone, Copy)]
 struct Move {
     outward: Units,
     total: u64,
@@ -141,7 +141,7 @@ fn move_node(
     i: usize,
     gained: Units,
 ) -> Move
-    requires node_in_lem { NodeIn 2 demand.now i × NodeIn 2 state.old i × NodeIn 2 flows.now i × NodeIn width row.old i × Width width }
+    requires node_in { NodeIn 2 demand.now i × NodeIn 2 state.old i × NodeIn 2 flows.now i × NodeIn width row.old i × Width width }
     requires move_kept { MoveKept demand.now state.old flows.now i × (gained.0 ≤ 228655104) }
     ensures { NodeMoved width demand.now state.old flows.now row.old i gained.0
         state.new row.new result.outward.0 result.total }
@@ -198,7 +198,7 @@ pub fn step(
     width: usize,
 ) -> u64
     requires rows_fit { RowsFit table.now demand.now plan.now state.old links × RowFits 2 flows.old links }
-    requires row_fits_lem { RowFits width row.old links × Width width }
+    requires row_fits { RowFits width row.old links × Width width }
     ensures { Stepped width table.now links demand.now downstream.0 plan.now state.old
         flows.new row.new state.new result }
 {

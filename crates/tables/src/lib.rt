@@ -1,8 +1,9 @@
 // What a call answers: accepted, or refused with the refusal's number and its place.
+#![tactic(auto)]
 ghost use Rattle.std.specs.Prelude.{◌≡◌};
 ghost use Rattle.tables.specs.Answer.{is_refused, refusal, sized};
 
-#[derive(Drop)]
+#[derive(Clone, Copy)]
 pub enum Answer {
     Accepted,
     Refused { number: u32, row: u32, node: u32 },
@@ -43,7 +44,7 @@ pub fn sized(fits: bool) -> Answer
 }
 
 // What a search by halving comes to: the one rate left, and how many rates were tried.
-#[derive(Drop)]
+#[derive(Clone, Copy)]
 pub struct Halved {
     pub rate: u32,
     pub tries: u32,

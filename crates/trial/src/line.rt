@@ -3,7 +3,7 @@
 use crate::content;
 
 // What is looked for in a text: a byte, one with another after it, or any but one.
-#[derive(Drop)]
+#[derive(Clone, Copy)]
 pub enum Sought {
     Byte(u8),
     Pair(u8, u8),
@@ -11,7 +11,7 @@ pub enum Sought {
 }
 
 // A word of a list, and what it becomes.
-#[derive(Drop)]
+#[derive(Clone, Copy)]
 pub struct NewWord {
     pub at: usize,
     pub to: u32,

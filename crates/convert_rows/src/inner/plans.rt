@@ -56,7 +56,7 @@ pub fn plan_row(
     out: &mut [u32],
 )
     requires rows_kept { RowsKept width corridor.now demand.now row.now links × SentKept width row.now links }
-    requires row_fits_lem { RowFits 2 out.old links }
+    requires row_fits { RowFits 2 out.old links }
     ensures { out.new ≡ plan_row width corridor.now links demand.now downstream.0 row.now }
 {
     let nodes = links + 1;

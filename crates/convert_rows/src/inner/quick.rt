@@ -12,7 +12,7 @@ use lists::inner::words;
 use road::Units;
 
 // Whether a test of a step holds, and then the vehicles and queues of the state after the step.
-#[derive(Drop)]
+#[derive(Clone, Copy)]
 pub struct Moves {
     pub holds: bool,
     pub cost: u64,
@@ -27,7 +27,7 @@ fn flows_fit(
     supply: Units,
     i: usize,
 ) -> bool
-    requires node_in_lem { NodeIn 8 table.now i × NodeIn 2 demand.now i × NodeIn width row.now i × Width width }
+    requires node_in { NodeIn 8 table.now i × NodeIn 2 demand.now i × NodeIn width row.now i × Width width }
     requires i_bound { get_or demand.now (i * 2 + 1) 0 ≤ 65536 }
     ensures { result ≡ true → FlowsFit width table.now demand.now row.now supply.0 i }
 {
@@ -75,7 +75,7 @@ fn flows_kept(
 
 // What node i passes on.
 pub fn outflow_at(demand: &[u32], row: &[u32], width: usize, i: usize) -> u32
-    requires node_in_lem { NodeIn 2 demand.now i × NodeIn width row.now i × Width width }
+    requires node_in { NodeIn 2 demand.now i × NodeIn width row.now i × Width width }
     requires i_bound { (get_or demand.now (i * 2 + 1) 0 ≤ 65536) × ((flows_in width row.now i).main + (flows_in width row.now i).ramp ≤ 134283264) }
     ensures { (result ≡ outflow (flows_in width row.now i) (get_or demand.now (i * 2 + 1) 0)) × (result ≤ 134283264) }
 {
@@ -94,7 +94,7 @@ fn node_moves(
     gained: u32,
     i: usize,
 ) -> bool
-    requires node_in_lem { NodeIn 8 table.now i × NodeIn 2 demand.now i × NodeIn width row.now i × NodeIn width after.now i × Width width }
+    requires node_in { NodeIn 8 table.now i × NodeIn 2 demand.now i × NodeIn width row.now i × NodeIn width after.now i × Width width }
     requires node_held { NodeHeld width demand.now row.now gained i }
     ensures { result ≡ true → NodeMoves width table.now demand.now row.now after.now gained i }
 {

@@ -16,7 +16,7 @@ use road::Units;
 use tables::{Answer, is_refused, refusal};
 
 // What is found of steps: the first refusal, and the vehicles and queues of the states after them.
-#[derive(Drop)]
+#[derive(Clone, Copy)]
 pub struct Found {
     pub answer: Answer,
     pub cost: u64,
@@ -126,7 +126,7 @@ fn step_answer(
     i: usize,
 ) -> Answer
     requires rows_kept { RowsKept width corridor.now demand.now row.now links }
-    requires row_fits_lem { RowFits width after.now links × (k ≤ 1440) }
+    requires row_fits { RowFits width after.now links × (k ≤ 1440) }
     requires i_le_links { (i ≤ links) × (gained ≤ 134283264) × (gained ≡ inflow (step_road corridor.now demand.now downstream.0) 0 (flows_in width row.now) i) }
     ensures { result ≡ refusal (step_fault_in width corridor.now demand.now downstream.0 row.now after.now i) k i }
 {
@@ -158,7 +158,7 @@ fn step_nodes(
     width: usize,
 ) -> Answer
     requires rows_kept { RowsKept width corridor.now demand.now row.now links }
-    requires row_fits_lem { RowFits width after.now links × (k ≤ 1440) }
+    requires row_fits { RowFits width after.now links × (k ≤ 1440) }
     ensures { result ≡ first_node (suc links) k (step_fault_in width corridor.now demand.now downstream.0 row.now after.now) }
 {
     let nodes = links + 1;
@@ -190,7 +190,7 @@ pub fn step_row(
     width: usize,
 ) -> Found
     requires rows_kept { RowsKept width corridor.now demand.now row.now links }
-    requires row_fits_lem { RowFits width after.now links × (k ≤ 1440) × (table.now ≡ table_of corridor.now links) }
+    requires row_fits { RowFits width after.now links × (k ≤ 1440) × (table.now ≡ table_of corridor.now links) }
     ensures found { result.answer
         ≡ first_node (suc links) k
         (step_fault_in width corridor.now demand.now downstream.0 row.now after.now) }

@@ -64,7 +64,7 @@ fn node_word(corridor: &[u32], links: usize, i: usize, q: usize) -> u32
 
 // Word q of node i in a row that has `width` words for each node.
 pub fn row_word(row: &[u32], width: usize, i: usize, q: usize) -> u32
-    requires node_in_lem { NodeIn width row.now i }
+    requires node_in { NodeIn width row.now i }
     requires q_lt_width { q < width }
     ensures { result ≡ get_or row.now (i * width + q) 0 }
 {
@@ -242,7 +242,7 @@ pub fn junction_at(
     i: usize,
 ) -> Junction
     requires corridor_fits { CorridorFits corridor.now links }
-    requires row_fits_lem { RowFits 2 demand.now links }
+    requires row_fits { RowFits 2 demand.now links }
     requires width { Width width × RowFits width state.now links }
     requires jam_kept { JamKept width corridor.now state.now links }
     requires i_le_links { i ≤ links }

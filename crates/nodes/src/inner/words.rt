@@ -5,7 +5,7 @@ ghost use Rattle.nodes.specs.Nodes.{node_in, taken, word_count, given, words_tak
 use crate::Node;
 
 // The first `length` of the words are the corridor's: as many as 65 nodes make, or none.
-#[derive(Drop)]
+#[derive(Clone, Copy)]
 pub struct Words {
     pub length: usize,
     pub at: [u32; 716],

@@ -11,7 +11,7 @@ use printed::inner::{input, lines};
 use tables::Answer;
 
 // The bytes of the lines gone through, and whether a write has failed.
-#[derive(Drop)]
+#[derive(Clone, Copy)]
 pub struct Given {
     pub bytes: usize,
     pub failed: bool,

@@ -4,7 +4,7 @@ ghost use Rattle.normal.specs.Fits.{received, Within};
 
 use libc::STDIN_FILENO;
 
-#[derive(Drop)]
+#[derive(Clone, Copy)]
 pub enum Received {
     // So many bytes were put at the room's start; a single read puts none at the input's end.
     Bytes(usize),

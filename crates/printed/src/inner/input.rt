@@ -15,7 +15,7 @@ use seals::inner::reading;
 use tables::{Answer, refusal};
 
 // N, K and the places in bytes where the demands and the record start.
-#[derive(Drop)]
+#[derive(Clone, Copy)]
 pub struct Layout {
     pub links: u32,
     pub steps: u32,

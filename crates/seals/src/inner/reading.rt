@@ -11,7 +11,7 @@ use payload::inner::{place, words};
 use tables::{Answer, is_refused, refusal};
 
 // Every fourth word of a block: the sum of those so far, modulo 2 ^ 32, and the sum of all that it has been.
-#[derive(Drop)]
+#[derive(Clone, Copy)]
 pub struct Lane {
     pub sum: u32,
     pub twice: u32,

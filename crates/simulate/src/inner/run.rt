@@ -20,7 +20,7 @@ fn step_at(
 ) -> u64
     requires sound { Sound corridor.now demands.now plan.now × (k < steps_of demands.now) }
     requires run_at { RunAt corridor.now demands.now plan.now k table.now state.old flows.old }
-    requires row_fits_lem { RowFits width row.old (links_of corridor.now) × Width width }
+    requires row_fits { RowFits width row.old (links_of corridor.now) × Width width }
     ensures { Ran width corridor.now demands.now plan.now k
         flows.new row.new state.new result }
 {
@@ -58,7 +58,7 @@ pub fn run_state(
 ) -> u64
     requires sound { Sound corridor.now demands.now plan.now }
     requires run_at { RunAt corridor.now demands.now plan.now 0 table.now state.old flows.old }
-    requires row_fits_lem { RowFits width row.old (links_of corridor.now) × Width width }
+    requires row_fits { RowFits width row.old (links_of corridor.now) × Width width }
     ensures reached { state.new
         ≡ state_row 2 corridor.now demands.now plan.now (steps_of demands.now) }
     ensures adds { result ≡ run_cost corridor.now demands.now plan.now }
