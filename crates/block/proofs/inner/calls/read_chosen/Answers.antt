@@ -1,0 +1,6 @@
+-- The file's kind, and what the reader of that kind answers.
+use borrow.Author.Rules.{rules}
+use Rattle.block.proofs.inner.calls.read_chosen.Goals as goal
+
+pub returns : goal.returns
+returns c = let all = rw (← c.file_kind.ensures) (search rules) in record { answered = all.0; lent = all.1 }

@@ -1,0 +1,34 @@
+use Prim.Native.Nat.{◌+◌, ◌-◌, ◌≤◌}
+use native.Mathlib.Omega.{arith}
+use lib.ListN.{length, length-take, length-drop}
+use Rattle.convert.proofs.Answers.{row_inside}
+use Rattle.convert.proofs.Rows.{plan_row_kept, plan_row_sent}
+use Rattle.convert.proofs.Settings.{plan_begun, plan_more, plan_ended}
+use Rattle.convert.proofs.inner.plans.write_rows.Goals as goal
+
+from_inside : (c : tie.After-downstream-at invariant-loop decreases-loop) → c.before.before.row-at2.result + c.before.before.before.before.before.before.state-words.result ≤ length c.before.before.before.before.before.before.before.before.before.before.before.args.words.now
+from_inside c =
+    let k = c.before.before.before.before.before.before.before.before.before.before.before in
+    row_inside _ _ _ _ _ k.args.words.now c.before.before.row-at2.ensures.1 c.before.before.before.before.before.before.state-words.ensures.0 k.requires.0.record_fits
+
+pub loop-k-init : goal.loop-k-init
+loop-k-init c = search plan_begun
+
+pub slice_bounds-plan_row-end-in-loop-k : goal.slice_bounds-plan_row-end-in-loop-k
+slice_bounds-plan_row-end-in-loop-k c = omega (arith, from_inside c)
+
+pub plan_row-requires : goal.plan_row-requires
+plan_row-requires c = let ready = c.requires.ready in
+    let r = c.row_at-at.ensures.0 in
+    let at = c.row_at-from.ensures.0 in
+    let v = c.state_words-wide.ensures.0 in record { rows_kept = (
+        plan_row_kept _ _ _ _ _ _ ready _ _ _ _ r at v (omega arith) c.requires.words_value,
+        plan_row_sent _ _ _ _ _ _ ready _ _ _ _ r at v (omega arith) c.requires.words_value,
+      ); row_fits = simp (length-take, length-drop) (omega arith) }
+
+pub loop-k-preserved : goal.loop-k-preserved
+loop-k-preserved c = plan_more _ _ _ _ _ _ c.requires.ready _ _ _ _ _ _ _ _ c.loop-k.invariant (omega arith) c.row_at-at.ensures.0 c.row_at-from.ensures.0 c.state_words-wide.ensures.0
+    c.downstream_at.ensures c.plan_row.ensures
+
+pub returns : goal.returns
+returns c = search plan_ended

@@ -1,0 +1,9 @@
+-- By the words that are read.
+use Rattle.tables.proofs.Answers.{refusal_told}
+use Rattle.convert_rows.proofs.Steps.{fixed_number_is}
+use Rattle.convert_rows.proofs.inner.rows.fixed_answer.Goals as goal
+
+pub returns : goal.returns
+returns c = refusal_told _ _ _ _ _ c.refusal.ensures
+    (fixed_number_is _ _ _ _ _ _ _ _ _ _ _ _ c.fixed_fault-number.ensures c.start_at-start.ensures c.state_at-state.ensures
+    c.flows_at-flows.ensures c.exit_at-said.ensures)

@@ -1,7 +1,0 @@
--- Each test picks the case of `◌&&◌`.
-use Rattle.tables.proofs.Sets.{tests}
-use Rattle.faults.proofs.inner.exit_fault.Statement.{statement}
-use Rattle.faults.proofs.inner.exit_fault.Tie as tie
-
-pub exit_fault_spec : {M : Type 1} → statement M
-exit_fault_spec = tie.close (tie.spec (λ c. search tests) (λ c. search tests) (λ c. search tests))

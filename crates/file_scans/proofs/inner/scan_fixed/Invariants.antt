@@ -1,0 +1,12 @@
+-- No state before k has a fault.
+use Prim.Native.Nat.{◌-◌}
+use Rattle.tables.proofs.First.{Passed}
+use Rattle.convert.specs.Rows.{fixed_row_refusal}
+use Rattle.file_rows.specs.Words.{record_in}
+use Rattle.file_scans.proofs.inner.scan_fixed.Given as goal
+
+abbrev pub invariant-loop-k : goal.invariant-loop-k
+invariant-loop-k l = Passed l.k l.states (fixed_row_refusal l.width l.corridor l.links l.steps (record_in l.width l.links l.steps l.recorded))
+
+abbrev pub decreases-loop-k : goal.decreases-loop-k
+decreases-loop-k l = l.states - l.k

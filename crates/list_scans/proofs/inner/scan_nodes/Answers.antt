@@ -1,0 +1,16 @@
+use Prim.Native.Nat.{◌-◌}
+use Rattle.tables.proofs.First.{nodes_stop, nodes_ended}
+use Rattle.tables.proofs.Sets.{scans}
+use Rattle.list_scans.proofs.inner.scan_nodes.Goals as goal
+
+pub loop-i-init : goal.loop-i-init
+loop-i-init c = search scans
+
+pub returns-then-is_refused : goal.returns-then-is_refused
+returns-then-is_refused c = search (scans, nodes_stop)
+
+pub loop-i-preserved : goal.loop-i-preserved
+loop-i-preserved c = search scans
+
+pub returns : goal.returns
+returns c = search nodes_ended

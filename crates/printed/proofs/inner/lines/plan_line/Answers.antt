@@ -1,0 +1,30 @@
+-- The files are lent as parts of the input, and their numbers are the input's.
+use Prim.Native.Nat.{◌≤◌}
+use native.Mathlib.Omega.{arith}
+use lib.ListN.{length, length-take}
+use Rattle.files.specs.Fits.{FilesFit, Accepts}
+use Rattle.printed.proofs.Input.{input_kept, in_order, lent}
+use Rattle.printed.proofs.Text.{plan_told}
+use Rattle.printed.proofs.inner.lines.plan_line.Goals as goal
+
+order : (c : tie.After-layout-in) → (c.layout-in.result.demands ≤ c.layout-in.result.recorded) × (c.layout-in.result.recorded ≤ length c.before.before.before.args.input.now)
+order c = in_order _ (input_kept _ c.before.before.before.requires.0) _ c.layout-in.ensures
+
+pub slice_bounds-files_line-end : goal.slice_bounds-files_line-end
+slice_bounds-files_line-end c = let o = order ?ctx<('After-struct_known2', 3)> in simp length-take (omega arith)
+
+pub slice_bounds-files_line-end-2 : goal.slice_bounds-files_line-end-2
+slice_bounds-files_line-end-2 c = let o = order ?ctx<('After-struct_known2', 3)> in omega arith
+
+pub slice_bounds-files_line-count-2 : goal.slice_bounds-files_line-count-2
+slice_bounds-files_line-count-2 c = let o = order ?ctx<('After-files_line-arg', 4)> in omega arith
+
+pub slice_bounds-files_line-start-2 : goal.slice_bounds-files_line-start-2
+slice_bounds-files_line-start-2 c = let o = order ?ctx<('After-files_line-arg', 4)> in omega arith
+
+pub files_line-requires : goal.files_line-requires
+files_line-requires c = let kept = input_kept _ c.requires.input_value in
+    let laid = c.layout_in-at.ensures in record { files_fit = lent _ kept _ laid FilesFit kept.fit; accepts = lent _ kept _ laid Accepts kept.accepted; k_lt_steps = (omega (arith, laid.steps, c.requires.k_bound.0), omega (arith, laid.links, c.requires.k_bound.1), c.requires.k_bound.2) }
+
+pub returns : goal.returns
+returns c = let kept = input_kept _ c.requires.input_value in record { out_after = plan_told _ kept _ c.layout_in-at.ensures _ _ _ c.files_line.ensures.out_after; prefix_len = c.files_line.ensures.prefix_len }
