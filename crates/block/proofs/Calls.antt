@@ -128,7 +128,7 @@ unfolding file_answer
 file_kept kind n k file =
     let agrees : Bool = own_agrees kind n k (payload_word file 0) in
     let p = or_else_accepts (payload_answer (kind_number kind) (list_length kind n k) file) (sized agrees) in (
-      λ e. record { payload = (p.0 e).0; own_val = (sized_iff agrees).0 (p.0 e).1 },
+      λ e. record { payload = (p.0 e).0; own = (sized_iff agrees).0 (p.0 e).1 },
       λ h. p.1 (h.payload, (sized_iff agrees).1 h.own),
     )
 

@@ -57,7 +57,7 @@ module _ (kind : Kind) (n k : ℕ) (words file lent : List ℕ) (fits : Words wo
             (file_kept kind n k made).1
             (record {
               payload = subst (λ (m : ℕ). payload_answer (kind_number kind) m made ≡ Accepted) list r.0;
-              own_val = ap (own_agrees kind n k) (sym (opens (length words) made words (omega (arith, length_low kind n k told)) r.1)) ∙ p.own;
+              own = ap (own_agrees kind n k) (sym (opens (length words) made words (omega (arith, length_low kind n k told)) r.1)) ∙ p.own;
             });
       }) in
       (accepted, ap (λ (a : Answer). left a (payload_of (list_length kind n k) made) lent) accepted ∙ ap (λ (m : ℕ). payload_of m made) (sym list) ∙ r.1)

@@ -167,7 +167,7 @@ record_count corridor demands links steps count x s n k e =
     ∙ ap₂ (λ (l m : ℕ). record_sized l m count) n k
     ∙ ap (λ (t : Bool). t && record_sized (links_of corridor) (steps_of demands) count) (sym s)
 
-pub record_unsized : (corridor demands : List ℕ) (count : ℕ) (t : Bool) → t ≡ sizes corridor demands → not t ≡ true → false ≡ record_test corridor demands count
+pub record_unsized : (corridor demands : List ℕ) (count : ℕ) (t : Bool) → t ≡ sizes corridor demands → t ≡ false → false ≡ record_test corridor demands count
 record_unsized corridor demands count t e h =
     ap (λ (x : Bool). x && record_sized (links_of corridor) (steps_of demands) count) (sym (told_false t _ e h))
 

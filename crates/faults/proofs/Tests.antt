@@ -3,7 +3,7 @@ use Prim.Native.Nat.{ℕ, ◌≤◌}
 use mathlib.Core.Bool.{Bool, true, false, not, ◌&&◌, ◌||◌, true≢false}
 use mathlib.Core.Path.{◌≡◌, refl, sym, ◌∙◌}
 use mathlib.Core.Logic.{◌↔◌, ◌≢◌, ◌⊎◌, inl, inr, ⊎_elim}
-use borrow.Author.Tests.{leb-true, le-leb, eqb-true, eq-eqb, not_true, not-false}
+use borrow.Author.Tests.{leb-true, le-leb, eqb-true, eq-eqb, not-true, not-false}
 use lib.Dec.{leb, eqb}
 use Rattle.tables.specs.Answer.{unless}
 use Rattle.tables.proofs.Answers.{unless_none}
@@ -45,8 +45,8 @@ no_fault t x h p =
 -- ---- tests as a call answered them: t is the answer as the code has it, and x what the call ensures of it
 
 module _ (t x : Bool) (e : t ≡ x) where
-  pub told_false : not t ≡ true → x ≡ false
-  told_false h = sym e ∙ not_true t h
+  pub told_false : t ≡ false → x ≡ false
+  told_false h = sym e ∙ h
 
-  pub told_true : not t ≡ false → x ≡ true
-  told_true h = sym e ∙ not-false t h
+  pub told_true : t ≡ true → x ≡ true
+  told_true h = sym e ∙ h

@@ -4,7 +4,7 @@ use mathlib.Core.Bool.{Bool, true, false, not, ◌&&◌, true≢false}
 use mathlib.Core.Path.{◌≡◌, refl, sym, ap, ap₂, ◌∙◌}
 use mathlib.Core.Logic.{◌↔◌, ◌≢◌}
 use native.Mathlib.Omega.{arith}
-use borrow.Author.Tests.{le-leb, lt-leb, not_true, not-false}
+use borrow.Author.Tests.{le-leb, lt-leb, not-true, not-false}
 use lib.Dec.{leb, eqb}
 use Rattle.tables.specs.Answer.{unless}
 use Rattle.road.specs.declared.Exit.{Exit}
@@ -113,23 +113,23 @@ module _ (road : Road) (k i links steps : ℕ) (start state : NodeState) (flows 
   fixed_tests a b c d p q r u = rw (p, q, r, u, l, s, t)
 
   module _ (a : Bool) (p : a ≡ implies (eqb k 0) (same_state state start)) where
-    pub fixed_first : not a ≡ true → 7 ≡ fixed_fault road k i state flows said
-    fixed_first h = simp (not_true a h) at (fixed_tests a _ _ _ p refl refl refl)
+    pub fixed_first : a ≡ false → 7 ≡ fixed_fault road k i state flows said
+    fixed_first h = simp (h) at (fixed_tests a _ _ _ p refl refl refl)
 
-    module _ (f : not a ≡ false) (b : Bool) (q : b ≡ implies (eqb k steps) (eqb flows.main 0 && (eqb flows.ramp 0 && exit_kept said 0))) where
-      pub fixed_last : not b ≡ true → 7 ≡ fixed_fault road k i state flows said
-      fixed_last h = simp (not-false a f, not_true b h) at (fixed_tests a b _ _ p q refl refl)
+    module _ (f : a ≡ true) (b : Bool) (q : b ≡ implies (eqb k steps) (eqb flows.main 0 && (eqb flows.ramp 0 && exit_kept said 0))) where
+      pub fixed_last : b ≡ false → 7 ≡ fixed_fault road k i state flows said
+      fixed_last h = simp (f, h) at (fixed_tests a b _ _ p q refl refl)
 
-      module _ (g : not b ≡ false) (c : Bool) (r : c ≡ implies (eqb i 0) (eqb state.vehicles 0 && (eqb flows.main 0 && exit_kept said 0))) where
-        pub fixed_entry : not c ≡ true → 7 ≡ fixed_fault road k i state flows said
-        fixed_entry h = simp (not-false a f, not-false b g, not_true c h) at (fixed_tests a b c _ p q r refl)
+      module _ (g : b ≡ true) (c : Bool) (r : c ≡ implies (eqb i 0) (eqb state.vehicles 0 && (eqb flows.main 0 && exit_kept said 0))) where
+        pub fixed_entry : c ≡ false → 7 ≡ fixed_fault road k i state flows said
+        fixed_entry h = simp (f, g, h) at (fixed_tests a b c _ p q r refl)
 
-        module _ (e : not c ≡ false) (d : Bool) (u : d ≡ implies (eqb i links) (eqb state.queue 0 && (eqb flows.ramp 0 && exit_kept said 0))) where
-          pub fixed_exit : not d ≡ true → 7 ≡ fixed_fault road k i state flows said
-          fixed_exit h = simp (not-false a f, not-false b g, not-false c e, not_true d h) at (fixed_tests a b c d p q r u)
+        module _ (e : c ≡ true) (d : Bool) (u : d ≡ implies (eqb i links) (eqb state.queue 0 && (eqb flows.ramp 0 && exit_kept said 0))) where
+          pub fixed_exit : d ≡ false → 7 ≡ fixed_fault road k i state flows said
+          fixed_exit h = simp (f, g, e, h) at (fixed_tests a b c d p q r u)
 
-          pub fixed_none : not d ≡ false → 0 ≡ fixed_fault road k i state flows said
-          fixed_none h = simp (not-false a f, not-false b g, not-false c e, not-false d h) at (fixed_tests a b c d p q r u)
+          pub fixed_none : d ≡ true → 0 ≡ fixed_fault road k i state flows said
+          fixed_none h = simp (f, g, e, h) at (fixed_tests a b c d p q r u)
 
 -- ---- 8 to 11. the flows are permitted, the exit is right where it is said, and the next state is the one that rule 6 gives
 

@@ -37,10 +37,10 @@ place_test corridor demands step node fits = sizes corridor demands && (ltb step
 
 -- t is what the test of the sizes answered, and links and steps are N and K as the code has them
 module _ (corridor demands : List ℕ) (step node : ℕ) (fits t : Bool) (e : t ≡ sizes corridor demands) where
-  pub place_unsized : not t ≡ true → false ≡ place_test corridor demands step node fits
+  pub place_unsized : t ≡ false → false ≡ place_test corridor demands step node fits
   place_unsized h = ap (λ (x : Bool). x && (ltb step (steps_of demands) && (leb node (links_of corridor) && fits))) (sym (told_false t _ e h))
 
-  module _ (h : not t ≡ false) (steps : ℕ) (k : steps ≡ steps_of demands) where
+  module _ (h : t ≡ true) (steps : ℕ) (k : steps ≡ steps_of demands) where
     sized_is : true ≡ sizes corridor demands
     sized_is = sym (told_true t _ e h)
 

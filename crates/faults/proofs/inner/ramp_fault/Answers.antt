@@ -1,5 +1,4 @@
 -- Each test picks the case of `◌&&◌`.
-use borrow.Author.Tests.{not_true, not-false}
 use Rattle.tables.proofs.Sets.{tests}
 use Rattle.faults.specs.Lists.{ramp_fault}
 use Rattle.faults.proofs.inner.ramp_fault.Goals as goal
@@ -10,20 +9,20 @@ returns-then-identifier-lt1 c = search tests
 
 pub returns-then-not-fresh : goal.returns-then-not-fresh
 unfolding ramp_fault
-returns-then-not-fresh c = search (tests, not_true c.args.fresh c.if-not-fresh.true)
+returns-then-not-fresh c = search (tests, c.if-not-fresh.true)
 
 pub returns-then-ramp-gt65536 : goal.returns-then-ramp-gt65536
 unfolding ramp_fault
-returns-then-ramp-gt65536 c = search (tests, not-false c.args.fresh c.if-not-fresh.false)
+returns-then-ramp-gt65536 c = search (tests, c.if-not-fresh.false)
 
 pub returns-then-ramp-gt134217728 : goal.returns-then-ramp-gt134217728
 unfolding ramp_fault
-returns-then-ramp-gt134217728 c = search (tests, not-false c.args.fresh c.if-not-fresh.false)
+returns-then-ramp-gt134217728 c = search (tests, c.if-not-fresh.false)
 
 pub returns-then-last : goal.returns-then-last
 unfolding ramp_fault
-returns-then-last c = search (tests, not-false c.args.fresh c.if-not-fresh.false, c.if-last.true, ← c.exit_fault.ensures)
+returns-then-last c = search (tests, c.if-not-fresh.false, c.if-last.true, ← c.exit_fault.ensures)
 
 pub returns : goal.returns
 unfolding ramp_fault
-returns c = search (tests, not-false c.args.fresh c.if-not-fresh.false, c.if-last.false)
+returns c = search (tests, c.if-not-fresh.false, c.if-last.false)

@@ -5,12 +5,12 @@ use Rattle.faults.proofs.inner.start_fault.Goals as goal
 
 pub returns-then-start-link : goal.returns-then-start-link
 unfolding start_fault
-returns-then-start-link c = search (tests, ← l, ← r, ← s)
+returns-then-start-link c node l r s = search (tests, ← l, ← r, ← s)
 
 pub returns-then-start-ramp : goal.returns-then-start-ramp
 unfolding start_fault
-returns-then-start-ramp c = search (tests, ← l, ← r, ← s)
+returns-then-start-ramp c node l r s = search (tests, ← l, ← r, ← s)
 
 pub returns : goal.returns
 unfolding start_fault
-returns c = search (tests, ← l, ← r, ← s)
+returns c node l r s = search (tests, ← l, ← r, ← s)

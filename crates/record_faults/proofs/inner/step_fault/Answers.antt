@@ -6,16 +6,6 @@ use Rattle.settings.specs.Share.{Permitted}
 use Rattle.record_faults.proofs.Records.{step_sent, step_fits, step_offered, step_left, permitted_told, moved_asks}
 use Rattle.record_faults.proofs.inner.step_fault.Goals as goal
 
--- 8, 9 and 10 passed
-permitted : (c : tie.Else4) → Permitted (junction_of c.before.before.before.before.before.before.before.before.before.before.before.before.before.before.before.args.junction) (flows_of c.before.before.before.before.before.before.before.before.before.before.before.before.before.before.before.args.flows)
-permitted c =
-    let queue = c.before.before.before in
-    let room = queue.before.before.before in
-    let part = room.before.before.before.before in
-    let sent = part.before in
-    let k = sent.before.before.before.before in
-    permitted_told k.args.junction k.args.flows _ _ sent.before.before.before.sending.ensures sent.if1.false part.through.ensures room.if2.false queue.if3.false c.if4.false
-
 pub returns-then-flows-sent : goal.returns-then-flows-sent
 returns-then-flows-sent c = step_sent _ _ _ _ _ (omega arith)
 
@@ -35,7 +25,12 @@ pub exit_fault-exit-requires : goal.exit_fault-exit-requires
 exit_fault-exit-requires c = c.requires.split_bound.0
 
 pub moved-moved-requires : goal.moved-moved-requires
-moved-moved-requires c = record { main_le_vehicles = moved_asks c.args.junction c.args.flows (permitted ?ctx<('After-moved-arg', 1)>) c.requires.split_bound.1; inflow_bound = c.requires.inflow_bound }
+-- 8, 9 and 10 passed
+moved-moved-requires c =
+    let permitted = permitted_told c.args.junction c.args.flows _ _ c.sending-sent.ensures c.if-flows-sent.false c.through-through.ensures c.if-through-flows.false c.if-flows-junction.false c.if-flows-junction-2.false in
+    record { main_le_vehicles = moved_asks c.args.junction c.args.flows permitted c.requires.split_bound.1; inflow_bound = c.requires.inflow_bound }
 
 pub returns : goal.returns
-returns c = step_left _ _ _ _ _ (permitted ?ctx<('After-first_fault', 4)>) _ _ _ _ c.moved-moved.ensures c.exit_fault-exit.ensures c.next_fault-next.ensures c.first_fault.ensures
+returns c =
+    let permitted = permitted_told c.args.junction c.args.flows _ _ c.sending-sent.ensures c.if-flows-sent.false c.through-through.ensures c.if-through-flows.false c.if-flows-junction.false c.if-flows-junction-2.false in
+    step_left _ _ _ _ _ permitted _ _ _ _ c.moved-moved.ensures c.exit_fault-exit.ensures c.next_fault-next.ensures c.first_fault.ensures

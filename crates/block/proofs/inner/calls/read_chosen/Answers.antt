@@ -3,4 +3,4 @@ use borrow.Author.Rules.{rules}
 use Rattle.block.proofs.inner.calls.read_chosen.Goals as goal
 
 pub returns : goal.returns
-returns c = let all = rw (← c.file_kind.ensures) (search rules) in record { answered = all.0; lent = all.1 }
+returns c = record { answered = rw (← c.file_kind.ensures) (search rules); lent = rw (← c.file_kind.ensures) (search rules) }

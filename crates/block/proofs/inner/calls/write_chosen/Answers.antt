@@ -11,4 +11,4 @@ pub list_kind-requires : goal.list_kind-requires
 list_kind-requires c = search (told_sized, told_accepted)
 
 pub returns : goal.returns
-returns c = let all = rw (← c.list_kind.ensures) (search rules) in record { answered = all.0; lent = all.1 }
+returns c = record { answered = rw (← c.list_kind.ensures) (search rules); lent = rw (← c.list_kind.ensures) (search rules) }

@@ -6,16 +6,11 @@ use Rattle.convert.proofs.Rows.{plan_row_kept, plan_row_sent}
 use Rattle.convert.proofs.Settings.{plan_begun, plan_more, plan_ended}
 use Rattle.convert.proofs.inner.plans.write_rows.Goals as goal
 
-from_inside : (c : tie.After-downstream-at invariant-loop decreases-loop) → c.before.before.row-at2.result + c.before.before.before.before.before.before.state-words.result ≤ length c.before.before.before.before.before.before.before.before.before.before.before.args.words.now
-from_inside c =
-    let k = c.before.before.before.before.before.before.before.before.before.before.before in
-    row_inside _ _ _ _ _ k.args.words.now c.before.before.row-at2.ensures.1 c.before.before.before.before.before.before.state-words.ensures.0 k.requires.0.record_fits
-
 pub loop-k-init : goal.loop-k-init
 loop-k-init c = search plan_begun
 
 pub slice_bounds-plan_row-end-in-loop-k : goal.slice_bounds-plan_row-end-in-loop-k
-slice_bounds-plan_row-end-in-loop-k c = omega (arith, from_inside c)
+slice_bounds-plan_row-end-in-loop-k c = omega (arith, row_inside _ _ _ _ _ c.args.words.now c.row_at-from.ensures.1 c.state_words-wide.ensures.0 c.requires.ready.record_fits)
 
 pub plan_row-requires : goal.plan_row-requires
 plan_row-requires c = let ready = c.requires.ready in

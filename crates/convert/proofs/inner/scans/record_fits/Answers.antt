@@ -5,17 +5,14 @@ use Rattle.lengths.proofs.Sizes.{demands_fit_lem}
 use Rattle.convert.proofs.Answers.{record_unsized, record_count}
 use Rattle.convert.proofs.inner.scans.record_fits.Goals as goal
 
--- N and K are small
-few : (c : tie.After-steps-of) → (c.before.links-of.result ≤ 64) × (c.steps_of.result ≤ 1440)
-few c =
-    let q = demands_fit_lem _ _ _ _ (told_true _ _ c.before.before.before.sizes.ensures c.before.before.if1.false) c.before.links-of.ensures c.steps_of.ensures in
-    (q.few, q.short)
-
 pub returns-then-not-sizes : goal.returns-then-not-sizes
 returns-then-not-sizes c = record_unsized _ _ _ _ c.sizes.ensures c.if-not-sizes.true
 
 pub record_sized-requires : goal.record_sized-requires
-record_sized-requires c = few c
+-- N and K are small
+record_sized-requires c =
+    let fit = demands_fit_lem _ _ _ _ (told_true _ _ c.sizes.ensures c.if-not-sizes.false) c.links_of-links.ensures c.steps_of-steps.ensures in
+    (fit.few, fit.short)
 
 pub returns : goal.returns
 returns c = record_count _ _ _ _ _ _ (told_true _ _ c.sizes.ensures c.if-not-sizes.false) c.links_of-links.ensures c.steps_of-steps.ensures c.record_sized.ensures

@@ -42,4 +42,4 @@ step_row-requires c = let ready = c.requires.files_ready.ready in
 pub returns : goal.returns
 returns c = let ready = c.requires.files_ready.ready in
     let here = c.requires.k_lt_steps.0 in
-    let e = (c.step_row.ensures.found, c.step_row.ensures.adds) in record { found = step_found _ _ _ _ _ _ ready _ _ _ c.step_rows.ensures.0 c.step_rows.ensures.1 here _ c.downstream.ensures _ _ c.state_row.ensures e.0; adds = (cost_found _ ready.wide _ _ _ _ _ c.state_row.ensures here _ e.1.0, e.1.1) }
+    record { found = step_found _ _ _ _ _ _ ready _ _ _ c.step_rows.ensures.0 c.step_rows.ensures.1 here _ c.downstream.ensures _ _ c.state_row.ensures c.step_row.ensures.found; adds = (cost_found _ ready.wide _ _ _ _ _ c.state_row.ensures here _ c.step_row.ensures.adds.0, c.step_row.ensures.adds.1) }

@@ -4,12 +4,6 @@ use Rattle.tables.proofs.Sets.{all}
 use Rattle.simulate.proofs.Runs.{Inside, rows_inside, rows_fit, row_lent, demands_read, step_ran}
 use Rattle.simulate.proofs.inner.run.step_at.Goals as goal
 
-inside : (c : tie.After-row-at) → Inside c.before.before.before.before.before.before.before.before.before.before.args.demands.now c.before.before.before.before.before.before.before.before.before.before.args.plan.now c.before.before.links-of.result c.row_at.result
-inside c =
-    let n = c.before.before in
-    let k = n.before.before.before.before.before.before.before.before in
-    rows_inside _ _ _ _ _ _ k.requires.0.0 n.links-of.ensures k.requires.0.1 c.row_at.ensures.0
-
 pub links_of-links-requires : goal.links_of-links-requires
 links_of-links-requires c = search all
 
@@ -47,7 +41,7 @@ pub slice_bounds-step-start : goal.slice_bounds-step-start
 slice_bounds-step-start c = search all
 
 pub slice_bounds-step-end : goal.slice_bounds-step-end
-slice_bounds-step-end c = omega (arith, inside ?ctx<('After-downstream_at', 1)>)
+slice_bounds-step-end c = omega (arith, rows_inside _ _ _ _ _ _ c.requires.sound.0 c.links_of-links.ensures c.requires.sound.1 c.row_at-at.ensures.0)
 
 pub offset_bounds-plan-at : goal.offset_bounds-plan-at
 offset_bounds-plan-at c = search all
@@ -59,7 +53,7 @@ pub slice_bounds-step-start-2 : goal.slice_bounds-step-start-2
 slice_bounds-step-start-2 c = search all
 
 pub slice_bounds-step-end-2 : goal.slice_bounds-step-end-2
-slice_bounds-step-end-2 c = omega (arith, inside ?ctx<('After-step-arg', 2)>)
+slice_bounds-step-end-2 c = omega (arith, rows_inside _ _ _ _ _ _ c.requires.sound.0 c.links_of-links.ensures c.requires.sound.1 c.row_at-at.ensures.0)
 
 pub step-requires : goal.step-requires
 step-requires c = record { rows_fit = rows_fit _ _ _ _ _ _ c.requires.sound.0 c.links_of-links.ensures c.requires.sound.1 c.row_at-at.ensures.0 _ _ _ c.requires.run_at; row_fits = (row_lent _ _ c.args.row.now _ c.links_of-links.ensures c.requires.row_fits.0, c.requires.row_fits.1) }
