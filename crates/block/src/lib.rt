@@ -1,5 +1,6 @@
 // Block files: a reader and a writer of corridors, of demands, of records and of plans, told N and K.
 #![tactic(auto)]
+
 pub mod inner;
 
 ghost use Rattle.std.specs.Prelude.{◌≡◌, length};

@@ -3,9 +3,12 @@
 // The text is read in parts, so that only each section alone has to fit the room that it is read into.
 // The greatest files of all, of 64 links and 1,440 steps, are too long for a local array here: the Rust tests run those.
 #![tactic(auto)]
-use libc::STDIN_FILENO;
+
 use trial::line::Sought;
 use trial::{content, line, say};
+
+// The file that is standard input.
+const STDIN_FILENO: i32 = 0;
 
 // Where the section of a place begins: at the last line up to it that begins with a number sign.
 fn section_after(text: &[u8], at: usize, section: usize) -> usize {

@@ -1,5 +1,6 @@
 // Checker and converter on block files: the bytes stay where they are, and a step's rows are unpacked when they are needed.
 #![tactic(auto)]
+
 ghost use Rattle.std.specs.Prelude.{◌≡◌, length};
 ghost use Rattle.files.specs.Files.{check_files, convert_files, plan_written};
 

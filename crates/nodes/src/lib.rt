@@ -1,5 +1,6 @@
 // The corridor taken as a list of nodes, one record each: each call has the answer and the lent lists of its list version.
 #![tactic(auto)]
+
 ghost use Rattle.std.specs.Prelude.{◌≡◌, length};
 ghost use Rattle.simulate.specs.Simulate.{simulate_answer, record_left};
 ghost use Rattle.convert.specs.Convert.{check_answer, convert_answer, normal_answer, plan_left, work_left, normal_left};

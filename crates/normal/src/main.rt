@@ -1,13 +1,16 @@
 // The program `normal`: reads a corridor's, the demands' and a record's file from standard input and prints the record's plan, or its refusal. A
 // program of Rattle has no exit status to set, so where reading or writing fails it says so on standard error.
 #![tactic(auto)]
+
 mod inner;
 
 ghost use Rattle.std.specs.Prelude.{◌≡◌, length};
 
 use inner::receive::Received;
 use inner::{print, receive};
-use libc::STDERR_FILENO;
+
+// The file that is standard error.
+const STDERR_FILENO: i32 = 2;
 
 // Room for one byte more than is taken: of a longer input its first 65,537 bytes are refused as it is (`cut_printed` of crates/printed).
 fn input_room() -> [u8; 65537]
@@ -21,9 +24,9 @@ fn say(line: &[u8]) {
     io::write_all(STDERR_FILENO, line);
 }
 
-fn main() {
+fn main(rt: HostRuntime) {
     let mut room = input_room();
-    let received = receive::receive(&mut room);
+    let received = receive::receive(&mut rt.stdin(), &mut room);
     let Received::Bytes(n) = received else {
         say(b"normal: cannot read standard input\n");
         return;

@@ -1,5 +1,6 @@
 // The values of one step of one node, in the units of document 01, each in a type of its own so that none stands in for another.
 #![tactic(auto)]
+
 pub mod inner;
 
 // A vehicle count or a flow per step, in 1/64 vehicle.

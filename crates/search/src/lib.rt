@@ -1,5 +1,6 @@
 // The search for a rate at one node and step of a record: how many rates it tries, and what it finds.
 #![tactic(auto)]
+
 ghost use Rattle.std.specs.Prelude.{◌≡◌, length};
 ghost use Rattle.search.specs.Search.{search_answer, search_left};
 

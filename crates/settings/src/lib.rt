@@ -1,5 +1,6 @@
 // The setting of a node that gives a record's flows: full speed at the smallest rate, or held at a limit.
 #![tactic(auto)]
+
 pub mod inner;
 
 use road::{Speed, Units};

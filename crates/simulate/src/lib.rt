@@ -1,5 +1,6 @@
 // The simulator: the record of a plan.
 #![tactic(auto)]
+
 ghost use Rattle.std.specs.Prelude.{◌≡◌, length};
 ghost use Rattle.simulate.specs.Simulate.{simulate_answer, record_left};
 

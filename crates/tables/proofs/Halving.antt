@@ -1,5 +1,5 @@
 -- Laws of the search by halving: what it comes to for a test that, once it holds, holds for every larger number, and how many tries it takes.
-use mathlib.Core.Bool.{Bool, true, false, cond}
+use mathlib.Core.Bool.{Bool, true, false}
 use mathlib.Core.Path.{◌≡◌, refl, sym, ap, ap₂, subst, ◌∙◌}
 use mathlib.Core.Logic.{⊎_elim}
 use Prim.Native.Nat.{ℕ, zero, suc, ◌+◌, ◌-◌, ◌/◌, ◌^◌, ◌≤◌, ◌<◌}
@@ -7,7 +7,7 @@ use native.Mathlib.Nat.{pow-zero, pow-suc}
 use native.Mathlib.Numerals.{add-one}
 use native.Mathlib.Omega.{arith}
 use borrow.Author.Tests.{lt-ltb, le-ltb, leb-true, le-leb}
-use lib.Dec.{ltb, leb}
+use lib.Dec.{leb}
 use Rattle.tables.specs.Least.{least_from, least}
 use Rattle.tables.specs.declared.Halved.{Halved}
 use Rattle.tables.specs.Halving.{last, tried, middle, lowest, highest, halved_in, halved, halving, ceil_log}

@@ -1,5 +1,6 @@
 // What a call answers: accepted, or refused with the refusal's number and its place.
 #![tactic(auto)]
+
 ghost use Rattle.std.specs.Prelude.{◌≡◌};
 ghost use Rattle.tables.specs.Answer.{is_refused, refusal, sized};
 

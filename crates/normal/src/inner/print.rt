@@ -6,9 +6,11 @@ ghost use Rattle.printed.specs.Input.{links_in, steps_in, input_answer};
 ghost use Rattle.normal.specs.Fits.{Gives};
 ghost use Rattle.printed.specs.Text.{refused_line, head_line, plan_line, lines_of, step_text, plan_text, printed};
 
-use libc::STDOUT_FILENO;
 use printed::inner::{input, lines};
 use tables::Answer;
+
+// The file that is standard output.
+const STDOUT_FILENO: i32 = 1;
 
 // The bytes of the lines gone through, and whether a write has failed.
 #[derive(Clone, Copy)]

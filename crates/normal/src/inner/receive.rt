@@ -2,7 +2,7 @@
 ghost use Rattle.std.specs.Prelude.{◌≡◌, length};
 ghost use Rattle.normal.specs.Fits.{received, Within};
 
-use libc::STDIN_FILENO;
+use std::io::{Read, Stdin};
 
 #[derive(Clone, Copy)]
 pub enum Received {
@@ -22,13 +22,21 @@ fn said(answer: isize, buffer: &[u8]) -> Received
     Received::Bytes(io::count(answer, buffer))
 }
 
+// What a read of standard input into a buffer answers, as the C library says it: below zero where it failed.
+fn answer_of(input: &mut Stdin, buffer: &mut [u8]) -> isize {
+    let Ok(count) = input.read(buffer) else {
+        return -1;
+    };
+    isize::try_from(count).unwrap_or(-1)
+}
+
 // Reads until the room is full, the input ends or a read fails.
-pub fn receive(room: &mut [u8]) -> Received
+pub fn receive(input: &mut Stdin, room: &mut [u8]) -> Received
     ensures { Within result room.new }
 {
     let mut done: usize = 0;
     while done < room.len() {
-        let answer = libc::read(STDIN_FILENO, &mut room[done..]);
+        let answer = answer_of(input, &mut room[done..]);
         let read = said(answer, &room[done..]);
         let Received::Bytes(more) = read else {
             return Received::Failed;

@@ -24,5 +24,8 @@ put_search-requires c = (eq_holds _ 3).0
 pub returns : goal.returns
 unfolding search_left
 returns c = let here = c.place_of-place in
-    let z = told_accepted c.place_answer-answer.result _ c.is_refused.ensures c.if-is_refused.false in record { answered = c.place_answer-answer.ensures; written = left_accepted _ _ _ _ _ c.place_answer-answer.ensures z
-          (c.put_search.ensures ∙ search_told _ _ _ _ _ here.result _ here.ensures c.search.ensures) }
+    let z = told_accepted c.place_answer-answer.result _ c.is_refused.ensures c.if-is_refused.false in record {
+      answered = c.place_answer-answer.ensures;
+      written = left_accepted _ _ _ _ _ c.place_answer-answer.ensures z
+          (c.put_search.ensures ∙ search_told _ _ _ _ _ here.result _ here.ensures c.search.ensures);
+    }

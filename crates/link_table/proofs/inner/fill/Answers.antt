@@ -1,4 +1,3 @@
-use Prim.Native.Nat.{◌-◌}
 use mathlib.Core.Path.{sym}
 use borrow.Author.Rules.{rules}
 use Rattle.link_table.proofs.Table.{tabled_begun, tabled_more, tabled_room, tabled_ended}

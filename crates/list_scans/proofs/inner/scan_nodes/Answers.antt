@@ -1,4 +1,3 @@
-use Prim.Native.Nat.{◌-◌}
 use Rattle.tables.proofs.First.{nodes_stop, nodes_ended}
 use Rattle.tables.proofs.Sets.{scans}
 use Rattle.list_scans.proofs.inner.scan_nodes.Goals as goal

@@ -1,8 +1,6 @@
 -- The first test that fails decides; rule 6 is asked only where 8, 9 and 10 passed.
 use native.Mathlib.Omega.{arith}
 use Rattle.road.specs.Step.{outflow}
-use Rattle.road.specs.Values.{junction_of, flows_of}
-use Rattle.settings.specs.Share.{Permitted}
 use Rattle.record_faults.proofs.Records.{step_sent, step_fits, step_offered, step_left, permitted_told, moved_asks}
 use Rattle.record_faults.proofs.inner.step_fault.Goals as goal
 

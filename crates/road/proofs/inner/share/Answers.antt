@@ -1,5 +1,4 @@
 -- A share of x is at most x, so it fits.
-use Prim.Native.Nat.{◌/◌, ◌≤◌}
 use native.Mathlib.Omega.{arith}
 use Rattle.road.proofs.Quotients.{share_le}
 use Rattle.road.proofs.inner.share.Goals as goal

@@ -1,7 +1,6 @@
 use mathlib.Core.Path.{sym, ◌∙◌}
 use native.Mathlib.Omega.{arith}
 use Rattle.tables.proofs.Halving.{halving_begun, halving_up_to, halving_past, halving_ended, halving_room}
-use Rattle.settings.specs.Tested.{tested}
 use Rattle.settings.proofs.inner.halved.Goals as goal
 
 pub loop-more-init : goal.loop-more-init

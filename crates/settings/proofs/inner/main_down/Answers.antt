@@ -1,5 +1,4 @@
 -- The three products say whether D × S < (f + 1) × R.
-use Prim.Native.Nat.{◌-◌}
 use native.Mathlib.Omega.{arith}
 use Rattle.settings.proofs.Products.{main_yes, main_no}
 use Rattle.settings.proofs.inner.main_down.Goals as goal

@@ -1,5 +1,4 @@
 -- The two products say whether r × R ≤ d × S.
-use Prim.Native.Nat.{◌-◌}
 use native.Mathlib.Omega.{arith}
 use Rattle.settings.proofs.Products.{ramp_over, ramp_yes, ramp_no}
 use Rattle.settings.proofs.inner.ramp_up.Goals as goal

@@ -16,10 +16,13 @@ pub plan_row-requires : goal.plan_row-requires
 plan_row-requires c = let ready = c.requires.ready in
     let r = c.row_at-at.ensures.0 in
     let at = c.row_at-from.ensures.0 in
-    let v = c.state_words-wide.ensures.0 in record { rows_kept = (
+    let v = c.state_words-wide.ensures.0 in record {
+      rows_kept = (
         plan_row_kept _ _ _ _ _ _ ready _ _ _ _ r at v (omega arith) c.requires.words_value,
         plan_row_sent _ _ _ _ _ _ ready _ _ _ _ r at v (omega arith) c.requires.words_value,
-      ); row_fits = simp (length-take, length-drop) (omega arith) }
+      );
+      row_fits = simp (length-take, length-drop) (omega arith);
+    }
 
 pub loop-k-preserved : goal.loop-k-preserved
 loop-k-preserved c = plan_more _ _ _ _ _ _ c.requires.ready _ _ _ _ _ _ _ _ c.loop-k.invariant (omega arith) c.row_at-at.ensures.0 c.row_at-from.ensures.0 c.state_words-wide.ensures.0

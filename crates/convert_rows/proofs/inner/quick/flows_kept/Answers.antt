@@ -22,12 +22,12 @@ returns-then-not-flows_fit c e = absurd (true≢false (sym e))
 
 pub loop-i-preserved : goal.loop-i-preserved
 loop-i-preserved c = (
-      omega arith,
-      below_more _ _ c.loop-i.invariant.1
-          (subst (λ (x : ℕ). FlowsFit c.args.width c.args.table.now c.args.demand.now c.args.row.now x c.loop-i.i)
-          (supply_next _ _ _ _ _ _ _ _ (omega arith) c.receiving_at-supply.ensures)
-          (c.flows_fit.ensures (c.if-not-flows_fit.false))),
-    )
+  omega arith,
+  below_more _ _ c.loop-i.invariant.1
+      (subst (λ (x : ℕ). FlowsFit c.args.width c.args.table.now c.args.demand.now c.args.row.now x c.loop-i.i)
+      (supply_next _ _ _ _ _ _ _ _ (omega arith) c.receiving_at-supply.ensures)
+      (c.flows_fit.ensures (c.if-not-flows_fit.false))),
+)
 
 pub flows_fit-requires-2 : goal.flows_fit-requires-2
 flows_fit-requires-2 c = record { node_in = node_room _ _ _ _ _ c.requires c.args.links (omega arith); i_bound = (c.requires.rows.kept c.args.links (omega arith)).split }

@@ -19,11 +19,14 @@ pub returns-then-is_refused : goal.returns-then-is_refused
 returns-then-is_refused c = search (scans, nodes_stop)
 
 pub outflow_at-gained-requires : goal.outflow_at-gained-requires
-outflow_at-gained-requires c = let r = c.requires.rows_kept in record { node_in = (
-        node_among 2 c.args.links c.loop-i.i c.args.demand.now r.demand_fits (omega arith),
-        node_among c.args.width c.args.links c.loop-i.i c.args.row.now r.row_fits (omega arith),
-        r.wide,
-      ); i_bound = passes_on _ _ _ _ _ c.args.after.now _ _ c.args.k _ _ r (omega arith) c.step_answer-answer.ensures c.is_refused.ensures c.if-is_refused.false }
+outflow_at-gained-requires c = let r = c.requires.rows_kept in record {
+  node_in = (
+    node_among 2 c.args.links c.loop-i.i c.args.demand.now r.demand_fits (omega arith),
+    node_among c.args.width c.args.links c.loop-i.i c.args.row.now r.row_fits (omega arith),
+    r.wide,
+  );
+  i_bound = passes_on _ _ _ _ _ c.args.after.now _ _ c.args.k _ _ r (omega arith) c.step_answer-answer.ensures c.is_refused.ensures c.if-is_refused.false;
+}
 
 pub loop-i-preserved : goal.loop-i-preserved
 loop-i-preserved c = stepping_more _ _ _ _ _ _ _ _ _ _ _ c.step_answer-answer.result _ c.loop-i.invariant (omega arith) c.step_answer-answer.ensures c.is_refused.ensures c.if-is_refused.false

@@ -34,10 +34,13 @@ slice_bounds-out-end c = simp length-take (omega arith)
 
 pub plan_row-requires : goal.plan_row-requires
 plan_row-requires c = let rows = c.step_rows.ensures in
-    let ready = c.requires.files_kept.files.ready in record { rows_kept = (
+    let ready = c.requires.files_kept.files.ready in record {
+      rows_kept = (
         plan_keeps _ _ _ _ _ _ ready _ _ _ rows.0 rows.1 c.requires.k_lt_steps.0 c.requires.files_kept.judges,
         plan_sends _ _ _ _ _ _ ready _ _ _ rows.0 rows.1 c.requires.k_lt_steps.0 c.requires.files_kept.judges,
-      ); row_fits = simp length-take (omega (arith, ready.corridor_fits.few)) }
+      );
+      row_fits = simp length-take (omega (arith, ready.corridor_fits.few));
+    }
 
 pub row_at-requires : goal.row_at-requires
 row_at-requires c = (c.requires.k_lt_steps.0, omega (arith, c.requires.files_kept.files.ready.demands_fit.short), omega (arith, c.requires.files_kept.files.ready.corridor_fits.few))

@@ -1,4 +1,3 @@
-use Prim.Native.Nat.{◌-◌}
 use Rattle.list_scans.proofs.Identifiers.{unseen_begun, unseen_more, unseen_ended, repeated}
 use Rattle.list_scans.proofs.inner.identifiers.fresh.Goals as goal
 

@@ -11,9 +11,9 @@ state_at-requires c = search (rules, node_in_lem)
 pub returns : goal.returns
 unfolding junction step_road
 returns c = simp (
-      c.link_at.ensures,
-      c.ramp_at.ensures,
-      c.state_at.ensures,
-      c.split_at.ensures,
-      c.supply_at.ensures c.args.demand.now,
-    )
+  c.link_at.ensures,
+  c.ramp_at.ensures,
+  c.state_at.ensures,
+  c.split_at.ensures,
+  c.supply_at.ensures c.args.demand.now,
+)

@@ -7,20 +7,17 @@ use Rattle.printed.proofs.Input.{input_kept, in_order, lent}
 use Rattle.printed.proofs.Text.{plan_told}
 use Rattle.printed.proofs.inner.lines.plan_line.Goals as goal
 
-order : (c : tie.After-layout-in) → (c.layout-in.result.demands ≤ c.layout-in.result.recorded) × (c.layout-in.result.recorded ≤ length c.before.before.before.args.input.now)
-order c = in_order _ (input_kept _ c.before.before.before.requires.0) _ c.layout-in.ensures
-
 pub slice_bounds-files_line-end : goal.slice_bounds-files_line-end
-slice_bounds-files_line-end c = let o = order ?ctx<('After-struct_known2', 3)> in simp length-take (omega arith)
+slice_bounds-files_line-end c = let o = in_order _ (input_kept _ c.requires.input_value) _ c.layout_in-at.ensures in simp length-take (omega arith)
 
 pub slice_bounds-files_line-end-2 : goal.slice_bounds-files_line-end-2
-slice_bounds-files_line-end-2 c = let o = order ?ctx<('After-struct_known2', 3)> in omega arith
+slice_bounds-files_line-end-2 c = let o = in_order _ (input_kept _ c.requires.input_value) _ c.layout_in-at.ensures in omega arith
 
 pub slice_bounds-files_line-count-2 : goal.slice_bounds-files_line-count-2
-slice_bounds-files_line-count-2 c = let o = order ?ctx<('After-files_line-arg', 4)> in omega arith
+slice_bounds-files_line-count-2 c = let o = in_order _ (input_kept _ c.requires.input_value) _ c.layout_in-at.ensures in omega arith
 
 pub slice_bounds-files_line-start-2 : goal.slice_bounds-files_line-start-2
-slice_bounds-files_line-start-2 c = let o = order ?ctx<('After-files_line-arg', 4)> in omega arith
+slice_bounds-files_line-start-2 c = let o = in_order _ (input_kept _ c.requires.input_value) _ c.layout_in-at.ensures in omega arith
 
 pub files_line-requires : goal.files_line-requires
 files_line-requires c = let kept = input_kept _ c.requires.input_value in

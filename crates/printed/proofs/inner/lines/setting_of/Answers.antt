@@ -28,10 +28,13 @@ step_rows-requires c = let files = c.requires.files_kept.files in record { links
 
 pub setting_at-requires : goal.setting_at-requires
 setting_at-requires c = let rows = c.step_rows.ensures in
-    let ready = c.requires.files_kept.files.ready in record { rows_kept = (
+    let ready = c.requires.files_kept.files.ready in record {
+      rows_kept = (
         plan_keeps _ _ _ _ _ _ ready _ _ _ rows.0 rows.1 c.requires.k_lt_steps.0 c.requires.files_kept.judges,
         plan_sends _ _ _ _ _ _ ready _ _ _ rows.0 rows.1 c.requires.k_lt_steps.0 c.requires.files_kept.judges,
-      ); i_le_links = c.requires.k_lt_steps.1 }
+      );
+      i_le_links = c.requires.k_lt_steps.1;
+    }
 
 pub returns : goal.returns
 returns c = let rows = c.step_rows.ensures in

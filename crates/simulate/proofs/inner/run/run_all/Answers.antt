@@ -47,11 +47,15 @@ pub slice_bounds-flows-end : goal.slice_bounds-flows-end
 slice_bounds-flows-end c = simp length-take (omega (arith, c.requires.sound.0.corridor_fits.few, c.links_of-links.ensures))
 
 pub run_steps-requires : goal.run_steps-requires
-run_steps-requires c = record { sound = c.requires.sound; run_at = record {
-          tabled = c.fill.ensures ∙ ap (table_of _) c.links_of-links.ensures;
-          reached = started _ _ _ _ _ c.links_of-links.ensures c.start.ensures;
-          room = simp length-take (omega (arith, c.requires.sound.0.corridor_fits.few, c.links_of-links.ensures));
-        }; states_len = c.requires.states_len }
+run_steps-requires c = record {
+  sound = c.requires.sound;
+  run_at = record {
+    tabled = c.fill.ensures ∙ ap (table_of _) c.links_of-links.ensures;
+    reached = started _ _ _ _ _ c.links_of-links.ensures c.start.ensures;
+    room = simp length-take (omega (arith, c.requires.sound.0.corridor_fits.few, c.links_of-links.ensures));
+  };
+  states_len = c.requires.states_len;
+}
 
 pub shape_of-states : goal.shape_of-states
 shape_of-states c = search all

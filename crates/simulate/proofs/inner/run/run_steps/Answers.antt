@@ -21,9 +21,9 @@ overflow_add-count c = search all
 
 pub loop-k-init : goal.loop-k-init
 loop-k-init c = (
-      ran_begun _ _ _ _ _ _ c.requires.run_at,
-      rowed_begun _ _ _ _ (states_room _ _ _ _ _ _ c.args.states.now c.links_of-links.ensures c.steps_of-steps.ensures c.state_words-wide.ensures.0 c.requires.states_len),
-    )
+  ran_begun _ _ _ _ _ _ c.requires.run_at,
+  rowed_begun _ _ _ _ (states_room _ _ _ _ _ _ c.args.states.now c.links_of-links.ensures c.steps_of-steps.ensures c.state_words-wide.ensures.0 c.requires.states_len),
+)
 
 pub row_at-at-requires : goal.row_at-at-requires
 row_at-at-requires c = search all
