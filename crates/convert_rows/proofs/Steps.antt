@@ -14,7 +14,7 @@ use Rattle.road.specs.declared.Exit.{Exit}
 use Rattle.road.specs.declared.Junction as junctions
 use Rattle.road.specs.declared.NodeState as states
 use Rattle.road.specs.declared.Flows as flows
-use Rattle.road.specs.Corridor.{NodeState, Road, Flows}
+use Rattle.road.specs.Corridor.{Road, Flows}
 use Rattle.road.specs.Step.{Junction, outflow, moved}
 use Rattle.road.specs.Run.{junction, inflow, next}
 use Rattle.road.specs.Values.{state_of, junction_of, flows_of}

@@ -7,7 +7,6 @@ use native.Mathlib.Nat.{zero-mul, zero-add, add_assoc}
 use native.Mathlib.Numerals.{add-one}
 use native.Mathlib.Omega.{arith}
 use lib.ListN.{length, get_or}
-use Rattle.tables.specs.Answer.{refusal}
 use Rattle.tables.proofs.Numbers.{le_or_lt, row_fits_lem}
 use Rattle.tables.proofs.Tabulate.{tabulate_length, tabulate_at}
 use Rattle.road.specs.declared.Exit.{Exit}

@@ -7,9 +7,6 @@ use native.Mathlib.Omega.{arith}
 use mathlib.Core.List.{List, [], ◌∷◌}
 use lib.ListN.{length, get_or, set, take, length-map, length-set}
 use lib.Seq.{sets, length-take-le, get_or-take, get_or-set_same, get_or-set_other, ext_get_or}
-use mir.Val.{Val}
-use denote.Laws.{Is}
-use denote.Struct.Laws as LL
 use Rattle.tables.proofs.Numbers.{le_or_lt}
 use Rattle.nodes.specs.declared.Node.{Node}
 use Rattle.nodes.specs.declared.inner.words.Words.{Words}
@@ -17,19 +14,13 @@ use Rattle.tables.proofs.Sets.{all}
 use Rattle.nodes.specs.Nodes.{node_words, node_in, corridor_words, taken, word_count, given, words_taken, with_node}
 use Rattle.nodes.proofs.Counts.{taken_all, taken_bound, none_or_all, count_none, count_all}
 use Rattle.nodes.proofs.Words.{eleven, words_length, words_first, words_at, taken_none, taken_whole}
-use Rattle.nodes.specs.contracts.inner.words.Words as T
-use Rattle.nodes.proofs.inner.words.Words.TheLaws as T'
 
--- the array has 716 places, which whoever holds it knows
-pub as_long : (w : Words) (vs : List Val) → Is T.the_row w vs → length w.at ≡ 716
-as_long w vs p = sym (length-map w.at (λ (v : ℕ). v)) ∙ (LL.owed T.the_type T'.the_laws w vs p).1.0.1.0.1
+-- the words that are given stand in the array
+pub inside : (w : Words) → length w.at ≡ 716 → w.length ≤ 716 → w.length ≤ length w.at
+inside w l h = omega arith
 
--- the words that are given stand in it
-pub inside : (w : Words) (vs : List Val) → Is T.the_row w vs → w.length ≤ 716 → w.length ≤ length w.at
-inside w vs p h = omega (arith, as_long w vs p)
-
-pub as_many : (w : Words) (vs : List Val) → Is T.the_row w vs → w.length ≤ 716 → w.length ≡ length (given w)
-as_many w vs p h = sym (length-take-le w.length w.at (inside w vs p h))
+pub as_many : (w : Words) → length w.at ≡ 716 → w.length ≤ 716 → w.length ≡ length (given w)
+as_many w l h = sym (length-take-le w.length w.at (inside w l h))
 
 pub ruleset front = (all, inside, as_many)
 

@@ -2,8 +2,4 @@ pub mod Counts
 pub mod Words
 pub mod Copies
 pub mod Answers
-pub mod Frame
-pub mod OnNodes
-pub mod Lent
-pub mod Promises
 pub mod AsLists

@@ -5,8 +5,7 @@ use mathlib.Core.Path.{◌≡◌, ap, ap₂, ◌∙◌}
 use native.Mathlib.Omega.{arith}
 use Rattle.road.specs.Corridor.{Road, Trace}
 use Rattle.road.specs.Step.{Junction}
-use Rattle.road.specs.Run.{junction}
-use Rattle.road.proofs.Roads.{SameRoads, with_sizes, with_sizes_lem, roads_junction}
+use Rattle.road.proofs.Roads.{SameRoads, with_sizes_lem, roads_junction}
 use Rattle.road.proofs.Same.{SameTraces, junction_same}
 use Rattle.settings.specs.Rate.{search}
 use Rattle.lists.specs.Words.{trace_of}

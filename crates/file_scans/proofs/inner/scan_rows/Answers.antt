@@ -1,4 +1,3 @@
-use Prim.Native.Nat.{◌-◌}
 use Rattle.tables.proofs.Sets.{scans}
 use Rattle.file_scans.proofs.inner.scan_rows.Goals as goal
 

@@ -1,4 +1,3 @@
-use Prim.Native.Nat.{◌-◌}
 use native.Mathlib.Omega.{arith}
 use Rattle.convert.proofs.Answers.{scanning_begun, scanning_more, scanning_stop, scanning_ended}
 use Rattle.file_scans.proofs.inner.scan_steps.Goals as goal

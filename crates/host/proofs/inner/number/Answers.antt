@@ -6,27 +6,17 @@ use Rattle.tables.specs.declared.Answer.TheVariants.{Refused}
 use Rattle.tables.proofs.Sets.{all}
 use Rattle.host.proofs.inner.number.Goals as goal
 
--- the parts of a refusal that is small
-parts : (c : tie.After-known-told) → Small (Refused c.before.answer.given.0.0 c.before.answer.given.0.1.0 c.before.answer.given.0.1.1.0)
-parts c = subst Small c.before.answer.given.1 c.before.before.before.requires
-
-pub enum_told-1 : goal.enum_told-1
-enum_told-1 c = search all
-
-pub enum_known-answer : goal.enum_known-answer
-enum_known-answer c = search all
-
 pub overflow_mul-result : goal.overflow_mul-result
-overflow_mul-result c = omega (arith, parts c)
+overflow_mul-result c = omega (arith, subst Small c.in-Refused.is c.requires)
 
 pub overflow_mul-result-in-Refused : goal.overflow_mul-result-in-Refused
-overflow_mul-result-in-Refused c = omega (arith, parts c)
+overflow_mul-result-in-Refused c = omega (arith, subst Small c.in-Refused.is c.requires)
 
 pub overflow_add-result : goal.overflow_add-result
-overflow_add-result c = omega (arith, parts c)
+overflow_add-result c = omega (arith, subst Small c.in-Refused.is c.requires)
 
 pub overflow_add-result-in-Refused : goal.overflow_add-result-in-Refused
-overflow_add-result-in-Refused c = omega (arith, parts c)
+overflow_add-result-in-Refused c = omega (arith, subst Small c.in-Refused.is c.requires)
 
 pub returns-in-Accepted : goal.returns-in-Accepted
 returns-in-Accepted c = sym (ap host_number c.in-Accepted.is)

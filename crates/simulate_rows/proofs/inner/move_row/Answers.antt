@@ -1,4 +1,3 @@
-use Prim.Native.Nat.{◌-◌}
 use mathlib.Core.Path.{sym}
 use native.Mathlib.Omega.{arith}
 use Rattle.simulate_rows.proofs.Steps.{moving_begun, moving_asks, moving_more, moving_ended}

@@ -1,5 +1,4 @@
 -- By what the later kind is, where it is chosen.
-use Rattle.block.specs.Kinds.{later}
 use Rattle.block.proofs.inner.kinds.choose.Goals as goal
 
 pub returns-then-chosen : goal.returns-then-chosen

@@ -1,6 +1,5 @@
-use Prim.Native.Nat.{◌+◌, ◌-◌, ◌≤◌}
 use native.Mathlib.Omega.{arith}
-use lib.ListN.{length, length-take, length-drop}
+use lib.ListN.{length-take, length-drop}
 use Rattle.convert.proofs.Answers.{row_inside}
 use Rattle.convert.proofs.Rows.{plan_row_kept, plan_row_sent}
 use Rattle.convert.proofs.Settings.{plan_begun, plan_more, plan_ended}

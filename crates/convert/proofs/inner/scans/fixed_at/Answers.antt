@@ -1,7 +1,6 @@
 -- Row k lies within the record, and what is found in it is found in the record.
-use Prim.Native.Nat.{◌+◌, ◌≤◌}
 use native.Mathlib.Omega.{arith}
-use lib.ListN.{length, length-take, length-drop}
+use lib.ListN.{length-take, length-drop}
 use borrow.Author.Rules.{rules}
 use Rattle.convert.proofs.Answers.{row_inside}
 use Rattle.convert.proofs.Rows.{fixed_row_told}

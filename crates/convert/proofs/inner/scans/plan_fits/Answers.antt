@@ -1,5 +1,4 @@
 -- By the length that N and K tell.
-use Prim.Native.Nat.{◌≤◌}
 use Rattle.lengths.proofs.Sizes.{demands_fit_lem}
 use Rattle.convert.proofs.Answers.{plan_count}
 use Rattle.convert.proofs.inner.scans.plan_fits.Goals as goal

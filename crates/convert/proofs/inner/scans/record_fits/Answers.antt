@@ -1,5 +1,4 @@
 -- By the length that N and K tell.
-use Prim.Native.Nat.{◌≤◌}
 use Rattle.faults.proofs.Tests.{told_true}
 use Rattle.lengths.proofs.Sizes.{demands_fit_lem}
 use Rattle.convert.proofs.Answers.{record_unsized, record_count}

@@ -1,4 +1,3 @@
-use Prim.Native.Nat.{◌-◌}
 use Rattle.tables.proofs.First.{nodes_stop, nodes_ended}
 use Rattle.tables.proofs.Sets.{scans}
 use Rattle.convert.proofs.inner.scans.scan_fixed.Goals as goal

@@ -1,7 +1,5 @@
 -- The rows of step k say what the lists say of it, and keep what is asked.
-use Prim.Native.Nat.{◌+◌, ◌≤◌}
 use native.Mathlib.Omega.{arith}
-use lib.ListN.{length}
 use Rattle.convert.proofs.Answers.{row_inside, row_cost_told}
 use Rattle.convert.proofs.Rows.{step_row_told, step_row_kept, after_row_fits}
 use Rattle.convert.proofs.inner.scans.step_at.Goals as goal

@@ -1,4 +1,3 @@
-use Prim.Native.Nat.{◌-◌}
 use native.Mathlib.Omega.{arith}
 use Rattle.convert_rows.proofs.Settings.{settings_begun, setting_more, settings_ended}
 use Rattle.convert_rows.proofs.inner.plans.plan_row.Goals as goal

@@ -1,4 +1,3 @@
-use Prim.Native.Nat.{◌-◌}
 use borrow.Author.Rules.{rules}
 use Rattle.tables.proofs.First.{nodes_stop, nodes_ended}
 use Rattle.tables.proofs.Sets.{scans}

@@ -1,4 +1,3 @@
-use Prim.Native.Nat.{◌-◌}
 use native.Mathlib.Omega.{arith}
 use Rattle.tables.proofs.Sets.{scans}
 use Rattle.lists.proofs.Rows.{node_among}

@@ -1,4 +1,3 @@
-use Prim.Native.Nat.{◌-◌}
 use native.Mathlib.Omega.{arith}
 use Rattle.files.proofs.Plans.{put_begun, put_more, put_ended}
 use Rattle.files.proofs.inner.plans.put_steps.Goals as goal

@@ -1,4 +1,3 @@
-use Prim.Native.Nat.{◌-◌}
 use Rattle.tables.proofs.Sets.{all}
 use Rattle.payload.proofs.inner.place.copy_run.Goals as goal
 

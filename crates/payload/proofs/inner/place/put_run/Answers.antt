@@ -1,4 +1,3 @@
-use Prim.Native.Nat.{◌-◌}
 use native.Mathlib.Omega.{arith}
 use Rattle.payload.proofs.Payloads.{put_begun, run_more, put_ended}
 use Rattle.payload.proofs.inner.place.put_run.Goals as goal

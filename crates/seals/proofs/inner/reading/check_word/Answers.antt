@@ -1,4 +1,3 @@
-use Prim.Native.Nat.{◌-◌}
 use native.Mathlib.Omega.{arith}
 use Rattle.seals.proofs.Lanes.{lanes_begun, lanes_more, lanes_ended, lane_word}
 use Rattle.seals.proofs.inner.reading.check_word.Goals as goal

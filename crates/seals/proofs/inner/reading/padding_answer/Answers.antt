@@ -1,4 +1,3 @@
-use Prim.Native.Nat.{◌-◌}
 use Rattle.tables.proofs.Sets.{scans}
 use Rattle.seals.proofs.inner.reading.padding_answer.Goals as goal
 

@@ -1,4 +1,3 @@
-use Prim.Native.Nat.{◌-◌}
 use Rattle.seals.proofs.Blocks.{clearing_begun, clearing_more, clearing_ended}
 use Rattle.seals.proofs.inner.sealing.clear.Goals as goal
 

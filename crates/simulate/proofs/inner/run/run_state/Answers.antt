@@ -1,4 +1,3 @@
-use Prim.Native.Nat.{◌-◌}
 use native.Mathlib.Omega.{arith}
 use Rattle.tables.proofs.Sets.{all}
 use Rattle.simulate.proofs.Runs.{ran_begun, ran_more, ran_state_lem, ran_cost_lem, state_even, step_row_fits}

@@ -1,7 +1,7 @@
 -- Row k of the demands and row k of the plan lie within their lists, and a step on them is step k of the run.
 use native.Mathlib.Omega.{arith}
 use Rattle.tables.proofs.Sets.{all}
-use Rattle.simulate.proofs.Runs.{Inside, rows_inside, rows_fit, row_lent, demands_read, step_ran}
+use Rattle.simulate.proofs.Runs.{rows_inside, rows_fit, row_lent, demands_read, step_ran}
 use Rattle.simulate.proofs.inner.run.step_at.Goals as goal
 
 pub links_of-links-requires : goal.links_of-links-requires

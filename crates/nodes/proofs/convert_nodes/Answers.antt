@@ -1,0 +1,10 @@
+-- The answer at the words that are given is the one at the words of the nodes.
+use borrow.Author.Rules.{rules}
+use Rattle.nodes.proofs.Answers.{convert_answer_lem, convert_written}
+use Rattle.nodes.proofs.convert_nodes.Goals as goal
+
+pub returns-clause-answered : goal.returns-clause-answered
+returns-clause-answered c = search (rules, convert_answer_lem, convert_written)
+
+pub returns-clause-written : goal.returns-clause-written
+returns-clause-written c = search (rules, convert_answer_lem, convert_written)

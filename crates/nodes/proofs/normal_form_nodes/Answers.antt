@@ -1,0 +1,13 @@
+-- The answer at the words that are given is the one at the words of the nodes.
+use borrow.Author.Rules.{rules}
+use Rattle.nodes.proofs.Answers.{normal_answer_lem, normal_worked, normal_written}
+use Rattle.nodes.proofs.normal_form_nodes.Goals as goal
+
+pub returns-clause-answered : goal.returns-clause-answered
+returns-clause-answered c = search (rules, normal_answer_lem, normal_worked, normal_written)
+
+pub returns-clause-worked : goal.returns-clause-worked
+returns-clause-worked c = search (rules, normal_answer_lem, normal_worked, normal_written)
+
+pub returns-clause-written : goal.returns-clause-written
+returns-clause-written c = search (rules, normal_answer_lem, normal_worked, normal_written)
