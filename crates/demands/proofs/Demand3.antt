@@ -29,7 +29,7 @@ use Rattle.convert.specs.Convert.{plan_for, converted_by, converted, normal_form
 use Rattle.convert.proofs.Facts.{Moves, Keeps, judged_iff}
 use Rattle.convert.proofs.Normal.{simulated_fits, simulated_width, simulated_sized}
 use Rattle.convert.proofs.Plans.{trace_limits}
-use Rattle.convert.proofs.Records.{record_costs, record_moves, record_exits_kept, queues_within, returned, returned_named, returned_bounded, returned_record}
+use Rattle.convert.proofs.Records.{record_costs, record_moves, record_exits_kept, queues_within, returned_named, returned_bounded, returned_record}
 use Rattle.demands.specs.Demand3.{Valid, SomeValidPlan, recorded, recorded_flows, rate_at, limit_at, Returned, Demand3}
 
 -- "Take any corridor, demand series and start within limits."

@@ -27,9 +27,9 @@ use Rattle.settings.proofs.Tries.{promised, reached}
 use Rattle.lists.specs.Words.{links_of, steps_of, road_of}
 use Rattle.lengths.specs.Lengths.{record_sized, sizes}
 use Rattle.list_scans.specs.Refusals.{ranges, limits}
-use Rattle.convert.specs.Convert.{converted, check_answer}
+use Rattle.convert.specs.Convert.{check_answer}
 use Rattle.search.specs.Search.{search_at, found_word, rate_word, searched, place_answer, search_answer, search_left}
-use Rattle.demands.specs.Demand3.{recorded, recorded_flows, rate_at, limit_at}
+use Rattle.demands.specs.Demand3.{recorded, recorded_flows}
 use Rattle.demands.specs.Search.{SearchCalls, SearchedAt}
 use Rattle.demands.proofs.Demand3.{road_limits, returned_settings, returned_full_speed}
 
