@@ -5,7 +5,7 @@ use Prim.Native.Nat.{ℕ, zero, suc, ◌+◌, ◌-◌, ◌*◌, ◌≤◌, ◌<�
 use native.Mathlib.Nat.{not-suc-le-zero, add-zero}
 use native.Mathlib.Omega.{arith}
 use mathlib.Core.List.{List, [], ◌∷◌}
-use lib.ListN.{length, get_or, set, take, length-map, length-set}
+use lib.ListN.{length, get_or, set, take, length-set}
 use lib.Seq.{sets, length-take-le, get_or-take, get_or-set_same, get_or-set_other, ext_get_or}
 use Rattle.tables.proofs.Numbers.{le_or_lt}
 use Rattle.nodes.specs.declared.Node.{Node}
