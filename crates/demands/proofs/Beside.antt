@@ -179,7 +179,7 @@ module _ (corridor demands : List ℕ) (within : limits corridor demands ≡ Acc
       let lim : Limits r = road_limits corridor demands within in
       let same : SameTraces r (trace_of width r (simulated width corridor demands plan)) (run r p) = record_read width r (run r p) wide in
       record {
-        record_length_lem = simulated_fits width corridor demands plan;
+        length_of_record = simulated_fits width corridor demands plan;
         vehicles_within_jam = λ k i hk hi. omega (arith, ap (λ (s : NodeState). s.vehicles) (same k i hk hi).state, run_jam r lim p k i hk hi);
         queues_at_most = λ k i hk hi. omega (arith, (run_state_fits r lim p k i hk hi).queue);
         words_fit = record_fits_lem width r lim p;
@@ -190,7 +190,7 @@ module _ (corridor demands : List ℕ) (within : limits corridor demands ≡ Acc
   unfolding road_of
   plan_sizes_lem words =
       record {
-        plan_length_lem = converted_length corridor demands within words;
+        length_of_plan = converted_length corridor demands within words;
         rates_at_most = λ a k i hk hi. omega (arith, (in_bounds a k i hk hi).rate, ((road_limits corridor demands within).ramp i hi).capacity);
         limits_at_most = λ a k i hk hi.
             omega (arith, (in_bounds a k i hk hi).limit, (link_tops (road_of corridor demands) (road_limits corridor demands within) i hi).full_speed);

@@ -39,7 +39,7 @@ simulated_is width wide corridor demands words =
     let plan = plan_of (road_of corridor demands) words in
     let read = record_read width road (run road plan) wide in
     record {
-      record_length_lem = record_length_lem width road (run road plan);
+      length_of_record = record_length_lem width road (run road plan);
       states = λ k i hk hi. (read k i hk hi).state;
       flows = λ k i hk hi. (read k i (le_of_lt hk) hi).flows ∙ run_flows road plan k i hk;
       last_flows = λ i hi. (read road.steps i (omega arith) hi).flows ∙ run_last road plan i;

@@ -93,7 +93,7 @@ pub record OneSetting (corridor demands : List ℕ) : Type 0 where
 
 -- the numbers in the record of a plan, whatever its words
 pub record RecordSizes (width : ℕ) (corridor demands plan : List ℕ) : Type 0 where
-  pub record_length_lem : length (simulated width corridor demands plan) ≡ record_length width (links_of corridor) (steps_of demands)
+  pub length_of_record : length (simulated width corridor demands plan) ≡ record_length width (links_of corridor) (steps_of demands)
   -- n ≤ J
   pub vehicles_within_jam : (k i : ℕ) → k ≤ steps_of demands → i ≤ links_of corridor
       → ((trace_of width (road_of corridor demands) (simulated width corridor demands plan)).state k i).vehicles ≤ ((road_of corridor demands).node i).link.jam
@@ -105,7 +105,7 @@ pub record RecordSizes (width : ℕ) (corridor demands plan : List ℕ) : Type 0
 
 -- and in the plan that the converter returns: its words are at most 65,536
 pub record PlanSizes (corridor demands words : List ℕ) : Type 0 where
-  pub plan_length_lem : length (converted corridor demands words) ≡ plan_length (links_of corridor) (steps_of demands)
+  pub length_of_plan : length (converted corridor demands words) ≡ plan_length (links_of corridor) (steps_of demands)
   pub rates_at_most : check_answer corridor demands words ≡ Accepted → (k i : ℕ) → k < steps_of demands → i ≤ links_of corridor
       → rate_at corridor demands (converted corridor demands words) k i ≤ 65536
   pub limits_at_most : check_answer corridor demands words ≡ Accepted → (k i : ℕ) → k < steps_of demands → i ≤ links_of corridor

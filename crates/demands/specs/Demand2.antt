@@ -25,7 +25,7 @@ main_flow road plan k i = (plan_flows road plan k (state_at road plan k) i).main
 -- "the simulator's record equals the Link-Node Cell Transmission Model as document 01 rounds it to whole units:"
 -- `width` is how many words a node has in it, 4 in kind 3 and 5 in kind 7
 pub record SimulatedRecord (width : ℕ) (corridor demands words : List ℕ) (road : Road) (plan : Plan) : Type 0 where
-  pub record_length_lem : length (simulated width corridor demands words) ≡ record_length width road.links road.steps
+  pub length_of_record : length (simulated width corridor demands words) ≡ record_length width road.links road.steps
   -- "each density, queue,"
   pub states : (k i : ℕ) → k ≤ road.steps → i ≤ road.links → (trace_of width road (simulated width corridor demands words)).state k i ≡ state_at road plan k i
   -- "mainline flow and ramp flow,"

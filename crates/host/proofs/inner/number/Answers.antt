@@ -2,8 +2,6 @@
 use native.Mathlib.Omega.{arith}
 use mathlib.Core.Path.{ap, sym, subst}
 use Rattle.tables.specs.Answer.{host_number, Small}
-use Rattle.tables.specs.declared.Answer.TheVariants.{Refused}
-use Rattle.tables.proofs.Sets.{all}
 use Rattle.host.proofs.inner.number.Goals as goal
 
 pub overflow_mul-result : goal.overflow_mul-result
