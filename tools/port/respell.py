@@ -12,9 +12,11 @@ stay. FOLDER is the checkout, the current folder if left out. Names that would f
 import collections
 import os
 import re
+import subprocess
 import sys
 
-LIBRARY = "/opt/rattle/rattle"
+# `rt doc` prints the path of the toolchain's first page, beside which its library lies.
+LIBRARY = os.path.join(os.path.dirname(subprocess.run(["rt", "doc"], stdout=subprocess.PIPE, text=True).stdout.strip()), "rattle")
 # What ends a name in antt. A dash is part of a name.
 PART = r"[^\s(){}\[\].,;:\"`|⌜⌝=]+"
 NAME = re.compile(PART)

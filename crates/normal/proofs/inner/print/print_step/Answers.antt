@@ -1,4 +1,3 @@
-use Prim.Native.Nat.{◌-◌}
 use native.Mathlib.Omega.{arith}
 use Rattle.tables.proofs.Sets.{all}
 use Rattle.normal.proofs.Printed.{step_counted}

@@ -1,7 +1,6 @@
 -- The record is lent as a part of the input, and its numbers are the input's.
 use Prim.Native.Nat.{◌≤◌}
 use native.Mathlib.Omega.{arith}
-use lib.ListN.{length}
 use Rattle.lists.specs.Words.{record_length}
 use Rattle.file_rows.specs.Words.{file_width}
 use Rattle.file_rows.specs.Rows.{Holds}

@@ -1,7 +1,6 @@
 -- The files are lent as parts of the input, and their numbers are the input's.
-use Prim.Native.Nat.{◌≤◌}
 use native.Mathlib.Omega.{arith}
-use lib.ListN.{length, length-take}
+use lib.ListN.{length-take}
 use Rattle.files.specs.Fits.{FilesFit, Accepts}
 use Rattle.printed.proofs.Input.{input_kept, in_order, lent}
 use Rattle.printed.proofs.Text.{plan_told}

@@ -1,9 +1,5 @@
 -- The two words stand after those of all states.
-use Prim.Native.Nat.{◌+◌, ◌*◌}
-use mathlib.Core.Path.{◌≡◌}
 use native.Mathlib.Omega.{arith}
-use lib.ListN.{length}
-use Rattle.payload.specs.File.{blocks_for}
 use Rattle.printed.proofs.Input.{stated_inside, stated_told}
 use Rattle.printed.proofs.inner.lines.stated_cost.Goals as goal
 

@@ -1,4 +1,3 @@
-use Prim.Native.Nat.{◌-◌}
 use native.Mathlib.Omega.{arith}
 use Rattle.printed.proofs.Text.{copied_begun, copied_more, copied_ended}
 use Rattle.printed.proofs.inner.text.put_text.Goals as goal
