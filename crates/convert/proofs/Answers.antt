@@ -33,7 +33,8 @@ use Rattle.convert.proofs.Rows.{TraceRow, trace_row_lem}
 -- a record's row of w words that begins at `at`, as a call gave it, lies within the record
 pub row_inside : (width links steps w at : ℕ) (words : List ℕ) → at + w ≤ (steps + 1) * w → w ≡ suc links * width → length words ≡ record_length width links steps
     → at + w ≤ length words
-row_inside width links steps w at words h q e = omega (arith, ap (λ (x : ℕ). (steps + 1) * x) q)
+row_inside width links steps w at words h q e =
+    omega (arith, ap (λ (x : ℕ). (steps + 1) * x) q)
 
 -- ---- 13: the cost row by row
 
@@ -43,8 +44,8 @@ pub row_cost_told : (width links steps k at w v : ℕ) (words : List ℕ) → Wi
 unfolding row_cost bare_road
 row_cost_told width links steps k at w v words wide e h q =
     let p : at ≡ suc k * w = omega arith in
-    let row : TraceRow width links (trace_of width (bare_road [] links steps) words) (exits_of width (bare_road [] links steps) words) (suc k) (take (at + w - at) (drop at words)) =
-    trace_row_lem width (bare_road [] links steps) words (suc k) at w wide p q in
+    let row : TraceRow width links (trace_of width (bare_road [] links steps) words) (exits_of width (bare_road [] links steps) words) (suc k)
+    (take (at + w - at) (drop at words)) = trace_row_lem width (bare_road [] links steps) words (suc k) at w wide p q in
     e ∙ sum_same (suc links) _ _ (λ i l. ap (λ (s : NodeState). s.vehicles + s.queue) (row.state i (omega arith)))
 
 -- v is the number as the code has it, `at` where the cost's words start, and a the answer that is made of v
@@ -137,7 +138,8 @@ ready corridor demands words a s l e h =
 pub ready_by : (corridor demands words : List ℕ) (links steps width : ℕ) → links ≡ links_of corridor → steps ≡ steps_of demands → width ≡ record_width links steps (length words)
     → Ready (width_of corridor demands (length words)) corridor demands words (links_of corridor) (steps_of demands) → Ready width corridor demands words (links_of corridor) (steps_of demands)
 ready_by corridor demands words links steps width n k w r =
-    subst (λ (x : ℕ). Ready x corridor demands words (links_of corridor) (steps_of demands)) (sym (width_told corridor demands links steps (length words) width n k w)) r
+    subst (λ (x : ℕ). Ready x corridor demands words (links_of corridor) (steps_of demands))
+    (sym (width_told corridor demands links steps (length words) width n k w)) r
 
 -- what they answer with it
 pub judged_by : (corridor demands words : List ℕ) (links steps width : ℕ) → links ≡ links_of corridor → steps ≡ steps_of demands → width ≡ record_width links steps (length words)
@@ -163,9 +165,7 @@ plan_count corridor demands links steps count x n k e = ap (eqb count) (e ∙ ap
 pub record_count : (corridor demands : List ℕ) (links steps count : ℕ) (x : Bool) → sizes corridor demands ≡ true → links ≡ links_of corridor → steps ≡ steps_of demands
     → x ≡ record_sized links steps count → x ≡ record_test corridor demands count
 record_count corridor demands links steps count x s n k e =
-    e
-    ∙ ap₂ (λ (l m : ℕ). record_sized l m count) n k
-    ∙ ap (λ (t : Bool). t && record_sized (links_of corridor) (steps_of demands) count) (sym s)
+    e ∙ ap₂ (λ (l m : ℕ). record_sized l m count) n k ∙ ap (λ (t : Bool). t && record_sized (links_of corridor) (steps_of demands) count) (sym s)
 
 pub record_unsized : (corridor demands : List ℕ) (count : ℕ) (t : Bool) → t ≡ sizes corridor demands → t ≡ false → false ≡ record_test corridor demands count
 record_unsized corridor demands count t e h =
@@ -224,11 +224,16 @@ pub also_kept : (corridor demands words : List ℕ) (also : Bool) → record_ans
     × (judged (width_of corridor demands (length words)) (road_of corridor demands) words ≡ Accepted)
     × (also ≡ true)
 also_kept corridor demands words also e =
-    let (fit, rest) = (or_else_accepts (sized (sizes corridor demands && (record_sized (links_of corridor) (steps_of demands) (length words) && also))) _).0 e in
+    let (fit, rest) =
+    (or_else_accepts (sized (sizes corridor demands && (record_sized (links_of corridor) (steps_of demands) (length words) && also))) _).0 e in
     let (s, more) = (and_iff (sizes corridor demands) _).0 ((sized_iff _).0 fit) in
     let (l, last) = (and_iff (record_sized (links_of corridor) (steps_of demands) (length words)) also).0 more in
-    let (r, j) = (or_else_accepts (ranges (road_of corridor demands)) _).0 rest in
-    (ready corridor demands words (ranges (road_of corridor demands)) s ((record_sized_iff (links_of corridor) (steps_of demands) (length words)).0 l) refl r, j, last)
+    let (r, j) = (or_else_accepts (ranges (road_of corridor demands)) _).0 rest in (
+      ready corridor demands words (ranges (road_of corridor demands)) s
+          ((record_sized_iff (links_of corridor) (steps_of demands) (length words)).0 l) refl r,
+      j,
+      last,
+    )
 
 -- ---- the converter: whether the lent plan has its length
 

@@ -92,7 +92,7 @@ fn scan_steps(
     width: usize,
 ) -> Found
     requires files_ready { FilesReady width links steps corridor.now demands.now recorded.now }
-    requires recorded_value { fixed_refusal width corridor.now links steps (record_in width links steps recorded.now) ≡ Accepted }
+    requires fixed_accepted { fixed_refusal width corridor.now links steps (record_in width links steps recorded.now) ≡ Accepted }
     requires table_value { table.now ≡ table_of corridor.now links }
     ensures found { result.answer
         ≡ steps_refusal width corridor.now (demands_in links steps demands.now) links

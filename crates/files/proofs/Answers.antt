@@ -104,12 +104,15 @@ accepts n k corridor demands recorded a told e h =
     let r = (or_else_accepts (files_answer n k corridor demands recorded) _).0 (sym e ∙ h) in
     let words : List ℕ = record_in (file_width recorded) n k recorded in
     let fit = files_fit n k corridor demands recorded _ told refl r.0 in
-    let s = (or_else_accepts (ranges (road_of (corridor_in n corridor) (demands_in n k demands))) (judged (width_of (corridor_in n corridor) (demands_in n k demands) (length words)) (road_of (corridor_in n corridor) (demands_in n k demands)) words)).0
+    let s = (or_else_accepts (ranges (road_of (corridor_in n corridor) (demands_in n k demands)))
+    (judged (width_of (corridor_in n corridor) (demands_in n k demands) (length words)) (road_of (corridor_in n corridor) (demands_in n k demands)) words)).0
     ((or_else_accepts (sized (record_test (corridor_in n corridor) (demands_in n k demands) (length words))) _).0 r.1).1 in (
       fit,
       record {
         ranged = s.0;
-        judges = subst (λ (w : ℕ). judged w (road_of (corridor_in n corridor) (demands_in n k demands)) words ≡ Accepted) (read_width n k corridor demands recorded fit) s.1;
+        judges =
+            subst (λ (w : ℕ). judged w (road_of (corridor_in n corridor) (demands_in n k demands)) words ≡ Accepted)
+            (read_width n k corridor demands recorded fit) s.1;
       },
     )
 

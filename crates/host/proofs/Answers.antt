@@ -249,5 +249,17 @@ told_small a x e h = subst Small (sym e) h
 pub told_number : (v : ℕ) (a x : Answer) → v ≡ host_number a → a ≡ x → v ≡ host_number x
 told_number v a x e h = e ∙ ap host_number h
 
-pub ruleset numbers =
-    (rules, told_small, told_number, simulate_small, check_small, convert_small, normal_small, place_small, read_small, write_small, check_files_small, convert_files_small)
+pub ruleset numbers = (
+  rules,
+  told_small,
+  told_number,
+  simulate_small,
+  check_small,
+  convert_small,
+  normal_small,
+  place_small,
+  read_small,
+  write_small,
+  check_files_small,
+  convert_files_small,
+)

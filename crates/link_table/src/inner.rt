@@ -69,7 +69,7 @@ pub fn ramp_at(table: &[u32], i: usize) -> Ramp
 // The receiving of link i, in the state that a row gives, whose nodes have `width` words, the first of them n.
 pub fn receiving_at(table: &[u32], row: &[u32], width: usize, i: usize) -> Units
     requires node_in { NodeIn 8 table.now i × NodeIn width row.now i × (1 ≤ width) }
-    requires i_bound { (state_in width row.now i).vehicles ≤ (link_in table.now i).jam }
+    requires jam_kept { (state_in width row.now i).vehicles ≤ (link_in table.now i).jam }
     ensures { result.0 ≡ receiving (link_in table.now i) (state_in width row.now i).vehicles }
 {
     let link = link_at(table, i);

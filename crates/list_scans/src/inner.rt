@@ -354,7 +354,7 @@ pub fn ranges(corridor: &[u32], demands: &[u32]) -> Answer
 
 // The first refusal of 6.
 pub fn bounds(corridor: &[u32], demands: &[u32], plan: &[u32]) -> Answer
-    requires demands_value { sizes corridor.now demands.now ≡ true }
+    requires sizes_fit { sizes corridor.now demands.now ≡ true }
     requires plan_len { length plan.now ≡ plan_length (links_of corridor.now) (steps_of demands.now) }
     ensures { result ≡ plan_bounds corridor.now demands.now plan.now }
 {

@@ -65,7 +65,7 @@ fn place_at(
     node: usize,
 ) -> Place
     requires ready { Ready width corridor.now demands.now words.now links steps }
-    requires words_value { judged width (road_of corridor.now demands.now) words.now ≡ Accepted }
+    requires accepted { judged width (road_of corridor.now demands.now) words.now ≡ Accepted }
     requires step_lt_steps { (step < steps) × (node ≤ links) }
     ensures { PlaceAt width corridor.now demands.now words.now step node result }
 {
@@ -94,7 +94,7 @@ fn place_at(
 // The same, with N, K and the record's width as the lists tell them.
 pub fn place_of(corridor: &[u32], demands: &[u32], words: &[u32], step: u32, node: u32) -> Place
     requires ready { Ready (width_of corridor.now demands.now (length words.now)) corridor.now demands.now words.now (links_of corridor.now) (steps_of demands.now) }
-    requires words_value { judged (width_of corridor.now demands.now (length words.now)) (road_of corridor.now demands.now) words.now ≡ Accepted }
+    requires accepted { judged (width_of corridor.now demands.now (length words.now)) (road_of corridor.now demands.now) words.now ≡ Accepted }
     requires step_bound { (step < steps_of demands.now) × (node ≤ links_of corridor.now) }
     ensures { PlaceAt (width_of corridor.now demands.now (length words.now)) corridor.now demands.now words.now step node result }
 {

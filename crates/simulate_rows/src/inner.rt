@@ -79,7 +79,7 @@ fn plan_flows(
     i: usize,
 ) -> Flows
     requires node_in { NodeIn 8 table.now i × NodeIn 2 demand.now i × NodeIn 2 plan.now i × NodeIn 2 state.now i }
-    requires i_bound { get_or demand.now (i * 2 + 1) 0 ≤ 65536 }
+    requires split_bound { get_or demand.now (i * 2 + 1) 0 ≤ 65536 }
     ensures { flows_of result ≡ flows_from table.now demand.now plan.now state.now supply.0 i }
 {
     let junction = Junction {

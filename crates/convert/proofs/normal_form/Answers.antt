@@ -32,11 +32,17 @@ shape_of-work-then-is_refused-2 c = search all
 
 pub returns-then-is_refused-2 : goal.returns-then-is_refused-2
 unfolding normal_left
-returns-then-is_refused-2 c = let r = told_refused c.simulate-answer.result _ c.is_refused-2.ensures c.if-is_refused-2.true in
+returns-then-is_refused-2 c =
+    let r = told_refused c.simulate-answer.result _ c.is_refused-2.ensures c.if-is_refused-2.true in
     let g = told_accepted c.sized-size.result _ c.is_refused.ensures c.if-is_refused.false in
     let f = c.normal_fits.ensures in
     let z = c.sized-size.ensures in
-    let a = normal_stops _ _ _ _ _ _ (simulator_refuses _ _ _ _ _ _ f _ z g _ c.simulate-answer.ensures.answered) r in record { answered = a; worked = work_left_lem _ _ _ _ _ _ f _ z g _ _ refl c.simulate-answer.ensures.written; written = left_refused _ _ _ _ a r }
+    let a = normal_stops _ _ _ _ _ _ (simulator_refuses _ _ _ _ _ _ f _ z g _ c.simulate-answer.ensures.answered) r in
+    record {
+      answered = a;
+      worked = work_left_lem _ _ _ _ _ _ f _ z g _ _ refl c.simulate-answer.ensures.written;
+      written = left_refused _ _ _ _ a r;
+    }
 
 pub convert-requires : goal.convert-requires
 convert-requires c = search all
@@ -48,8 +54,14 @@ pub shape_of-normal : goal.shape_of-normal
 shape_of-normal c = search all
 
 pub returns : goal.returns
-returns c = let y = told_accepted c.simulate-answer.result _ c.is_refused-2.ensures c.if-is_refused-2.false in
+returns c =
+    let y = told_accepted c.simulate-answer.result _ c.is_refused-2.ensures c.if-is_refused-2.false in
     let g = told_accepted c.sized-size.result _ c.is_refused.ensures c.if-is_refused.false in
     let f = c.normal_fits.ensures in
     let z = c.sized-size.ensures in
-    let w = work_is _ _ _ _ _ _ _ c.simulate-answer.ensures.answered y refl c.simulate-answer.ensures.written in record { answered = converter_answers _ _ _ _ _ _ f _ z g (sym c.simulate-answer.ensures.answered ∙ y) _ w _ c.convert.ensures.answered; worked = work_left_lem _ _ _ _ _ _ f _ z g _ _ refl c.simulate-answer.ensures.written; written = converter_writes _ _ _ _ _ _ f _ z g (sym c.simulate-answer.ensures.answered ∙ y) _ w _ _ refl c.convert.ensures.written }
+    let w = work_is _ _ _ _ _ _ _ c.simulate-answer.ensures.answered y refl c.simulate-answer.ensures.written in
+    record {
+      answered = converter_answers _ _ _ _ _ _ f _ z g (sym c.simulate-answer.ensures.answered ∙ y) _ w _ c.convert.ensures.answered;
+      worked = work_left_lem _ _ _ _ _ _ f _ z g _ _ refl c.simulate-answer.ensures.written;
+      written = converter_writes _ _ _ _ _ _ f _ z g (sym c.simulate-answer.ensures.answered ∙ y) _ w _ _ refl c.convert.ensures.written;
+    }

@@ -19,7 +19,7 @@ fn write_rows(
     plan: &mut [u32],
 )
     requires ready { Ready width corridor.now demands.now words.now links steps }
-    requires words_value { judged width (road_of corridor.now demands.now) words.now ≡ Accepted }
+    requires accepted { judged width (road_of corridor.now demands.now) words.now ≡ Accepted }
     requires plan_len { length plan.old ≡ plan_length links steps }
     ensures { plan.new ≡ converted_by width corridor.now demands.now words.now }
 {
@@ -49,7 +49,7 @@ fn write_rows(
 // The plan of a record that is accepted.
 pub fn write_plan(corridor: &[u32], demands: &[u32], words: &[u32], plan: &mut [u32])
     requires ready { Ready (width_of corridor.now demands.now (length words.now)) corridor.now demands.now words.now (links_of corridor.now) (steps_of demands.now) }
-    requires words_value { judged (width_of corridor.now demands.now (length words.now)) (road_of corridor.now demands.now) words.now ≡ Accepted }
+    requires accepted { judged (width_of corridor.now demands.now (length words.now)) (road_of corridor.now demands.now) words.now ≡ Accepted }
     requires plan_len { length plan.old ≡ plan_length (links_of corridor.now) (steps_of demands.now) }
     ensures { plan.new ≡ converted corridor.now demands.now words.now }
 {

@@ -100,8 +100,8 @@ fn step_at(
     k: usize,
 ) -> Found
     requires ready { Ready width corridor.now demands.now words.now links steps }
-    requires words_value { fixed_refusal width corridor.now links steps words.now ≡ Accepted }
-    requires k_value { steps_refusal width corridor.now demands.now links words.now k ≡ Accepted }
+    requires fixed_accepted { fixed_refusal width corridor.now links steps words.now ≡ Accepted }
+    requires steps_accepted { steps_refusal width corridor.now demands.now links words.now k ≡ Accepted }
     requires k_lt_steps { (k < steps) × (table.now ≡ table_of corridor.now links) }
     ensures found { result.answer ≡ step_refusal width corridor.now demands.now links words.now k }
     ensures adds { (result.cost ≡ state_cost_at width links steps words.now k) × (result.cost ≤ 558345748350) }
@@ -138,7 +138,7 @@ fn scan_steps(
     width: usize,
 ) -> Found
     requires ready { Ready width corridor.now demands.now words.now links steps }
-    requires words_value { fixed_refusal width corridor.now links steps words.now ≡ Accepted }
+    requires fixed_accepted { fixed_refusal width corridor.now links steps words.now ≡ Accepted }
     requires table_value { table.now ≡ table_of corridor.now links }
     ensures found { result.answer ≡ steps_refusal width corridor.now demands.now links words.now steps }
     ensures adds { result.answer ≡ Accepted → result.cost ≡ cost_in width links steps words.now }
@@ -199,7 +199,7 @@ pub fn judged(corridor: &[u32], demands: &[u32], words: &[u32], width: usize) ->
 
 // The first refusal of 2 to 5 and of 7 to 13, where all lengths are right.
 pub fn contents(corridor: &[u32], demands: &[u32], words: &[u32]) -> Answer
-    requires demands_value { sizes corridor.now demands.now ≡ true }
+    requires sizes_fit { sizes corridor.now demands.now ≡ true }
     requires words_len { length words.now ≡ record_length (width_of corridor.now demands.now (length words.now)) (links_of corridor.now) (steps_of demands.now) }
     ensures { result ≡ record_refusal corridor.now demands.now words.now }
 {

@@ -28,7 +28,7 @@ fn flows_fit(
     i: usize,
 ) -> bool
     requires node_in { NodeIn 8 table.now i × NodeIn 2 demand.now i × NodeIn width row.now i × Width width }
-    requires i_bound { get_or demand.now (i * 2 + 1) 0 ≤ 65536 }
+    requires split_bound { get_or demand.now (i * 2 + 1) 0 ≤ 65536 }
     ensures { result ≡ true → FlowsFit width table.now demand.now row.now supply.0 i }
 {
     let link = link_table::inner::link_at(table, i);
@@ -76,7 +76,7 @@ fn flows_kept(
 // What node i passes on.
 pub fn outflow_at(demand: &[u32], row: &[u32], width: usize, i: usize) -> u32
     requires node_in { NodeIn 2 demand.now i × NodeIn width row.now i × Width width }
-    requires i_bound { (get_or demand.now (i * 2 + 1) 0 ≤ 65536) × ((flows_in width row.now i).main + (flows_in width row.now i).ramp ≤ 134283264) }
+    requires split_bound { (get_or demand.now (i * 2 + 1) 0 ≤ 65536) × ((flows_in width row.now i).main + (flows_in width row.now i).ramp ≤ 134283264) }
     ensures { (result ≡ outflow (flows_in width row.now i) (get_or demand.now (i * 2 + 1) 0)) × (result ≤ 134283264) }
 {
     let flows = words::flows_at(row, width, i);

@@ -172,8 +172,8 @@ pub fn step_at(
     k: usize,
 ) -> Found
     requires files_ready { FilesReady width links steps corridor.now demands.now recorded.now }
-    requires recorded_value { fixed_refusal width corridor.now links steps (record_in width links steps recorded.now) ≡ Accepted }
-    requires k_value { steps_refusal width corridor.now (demands_in links steps demands.now) links (record_in width links steps recorded.now) k ≡ Accepted }
+    requires fixed_accepted { fixed_refusal width corridor.now links steps (record_in width links steps recorded.now) ≡ Accepted }
+    requires steps_accepted { steps_refusal width corridor.now (demands_in links steps demands.now) links (record_in width links steps recorded.now) k ≡ Accepted }
     requires k_lt_steps { (k < steps) × (table.now ≡ table_of corridor.now links) }
     ensures found { result.answer
         ≡ step_refusal width corridor.now (demands_in links steps demands.now) links

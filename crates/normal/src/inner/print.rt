@@ -56,7 +56,7 @@ fn print_head(input: &[u8], failed: bool) -> Given
 
 // The line of node i at step k.
 fn print_node(input: &[u8], k: usize, i: usize, failed: bool) -> Given
-    requires input_value { input_answer input.now ≡ Accepted }
+    requires accepted { input_answer input.now ≡ Accepted }
     requires k_bound { (k < steps_in input.now) × (i ≤ links_in input.now) }
     ensures { Gives (plan_line input.now k i) failed result × (result.bytes ≤ 128) }
 {
@@ -67,7 +67,7 @@ fn print_node(input: &[u8], k: usize, i: usize, failed: bool) -> Given
 
 // The lines of step k.
 fn print_step(input: &[u8], nodes: usize, k: usize, mut failed: bool) -> Given
-    requires input_value { input_answer input.now ≡ Accepted }
+    requires accepted { input_answer input.now ≡ Accepted }
     requires k_bound { (k < steps_in input.now) × (nodes ≡ links_in input.now + 1) × (nodes ≤ 65) }
     ensures { Gives (step_text input.now k) failed result × (result.bytes ≤ 8320) }
 {
@@ -84,7 +84,7 @@ fn print_step(input: &[u8], nodes: usize, k: usize, mut failed: bool) -> Given
 
 // The lines of all steps.
 fn print_steps(input: &[u8], nodes: usize, steps: usize, mut failed: bool) -> Given
-    requires input_value { input_answer input.now ≡ Accepted }
+    requires accepted { input_answer input.now ≡ Accepted }
     requires nodes_value { (nodes ≡ links_in input.now + 1) × (nodes ≤ 65) }
     requires steps_value { (steps ≡ steps_in input.now) × (steps ≤ 1440) }
     ensures { Gives (lines_of (steps_in input.now) (step_text input.now)) failed result × (result.bytes ≤ 11980800) }

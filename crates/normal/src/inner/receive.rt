@@ -27,7 +27,7 @@ fn answer_of(input: &mut Stdin, buffer: &mut [u8]) -> isize {
     let Ok(count) = input.read(buffer) else {
         return -1;
     };
-    isize::try_from(count).unwrap_or(-1)
+    count as isize
 }
 
 // Reads until the room is full, the input ends or a read fails.

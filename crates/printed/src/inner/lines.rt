@@ -54,7 +54,7 @@ fn stated_cost(links: usize, steps: usize, recorded: &[u8]) -> u64
 
 // The first line of an accepted input.
 pub fn head_line(input: &[u8], out: &mut [u8]) -> usize
-    requires input_value { input_answer input.now ≡ Accepted }
+    requires accepted { input_answer input.now ≡ Accepted }
     requires out_len { length out.old ≡ 128 }
     ensures out_after { take result out.new ≡ head_line input.now }
     ensures prefix_len { IsPrefixLen result out.new }
@@ -164,7 +164,7 @@ fn files_line(
 
 // The line of node i at step k of an accepted input.
 pub fn plan_line(input: &[u8], k: usize, i: usize, out: &mut [u8]) -> usize
-    requires input_value { input_answer input.now ≡ Accepted }
+    requires accepted { input_answer input.now ≡ Accepted }
     requires k_bound { (k < steps_in input.now) × (i ≤ links_in input.now) × (length out.old ≡ 128) }
     ensures out_after { take result out.new ≡ plan_line input.now k i }
     ensures prefix_len { IsPrefixLen result out.new }

@@ -9,10 +9,23 @@ use Rattle.search.proofs.search.Goals as goal
 
 pub returns-then-is_refused : goal.returns-then-is_refused
 unfolding search_left
-returns-then-is_refused c = record { answered = c.place_answer-answer.ensures; written = left_refused _ _ _ _ c.place_answer-answer.ensures (told_refused c.place_answer-answer.result _ c.is_refused.ensures c.if-is_refused.true) }
+returns-then-is_refused c =
+    record {
+      answered = c.place_answer-answer.ensures;
+      written =
+          left_refused _ _ _ _ c.place_answer-answer.ensures (told_refused c.place_answer-answer.result _ c.is_refused.ensures c.if-is_refused.true);
+    }
 
 pub place_of-place-requires : goal.place_of-place-requires
-place_of-place-requires c = let asked = (place_asks _ _ _ _ _ _ _ c.place_answer-answer.ensures (told_accepted c.place_answer-answer.result _ c.is_refused.ensures c.if-is_refused.false)).0 in record { ready = asked.ready; words_value = asked.accepted; step_bound = (asked.early, asked.here) }
+place_of-place-requires c =
+    let asked =
+    (place_asks _ _ _ _ _ _ _ c.place_answer-answer.ensures (told_accepted c.place_answer-answer.result _ c.is_refused.ensures c.if-is_refused.false)).0
+    in
+    record {
+      ready = asked.ready;
+      accepted = asked.accepted;
+      step_bound = (asked.early, asked.here);
+    }
 
 pub search-requires : goal.search-requires
 search-requires c = c.place_of-place.ensures.split

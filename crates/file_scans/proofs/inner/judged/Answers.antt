@@ -7,7 +7,12 @@ use Rattle.convert.proofs.Answers.{told_accepts}
 use Rattle.file_scans.proofs.inner.judged.Goals as goal
 
 pub scan_fixed-fixed-requires : goal.scan_fixed-fixed-requires
-scan_fixed-fixed-requires c = let files = c.requires in record { corridor_fits = files.ready.corridor_fits; steps_bound = (files.ready.demands_fit.short, files.ready.wide, files.record_holds) }
+scan_fixed-fixed-requires c =
+    let files = c.requires in
+    record {
+      corridor_fits = files.ready.corridor_fits;
+      steps_bound = (files.ready.demands_fit.short, files.ready.wide, files.record_holds);
+    }
 
 pub returns-then-is_refused : goal.returns-then-is_refused
 returns-then-is_refused c = search (files_fixed, told_refused)
@@ -29,13 +34,24 @@ fill-requires c = let fits = c.requires.ready.corridor_fits in
     (fits, simp length-take (omega (arith, fits.few)))
 
 pub scan_steps-step-requires : goal.scan_steps-step-requires
-scan_steps-step-requires c = record { files_ready = c.requires; recorded_value = told_accepts _ _ c.scan_fixed-fixed.ensures (told_accepted c.scan_fixed-fixed.result _ c.is_refused.ensures c.if-is_refused.false); table_value = c.fill.ensures }
+scan_steps-step-requires c =
+    record {
+      files_ready = c.requires;
+      fixed_accepted =
+          told_accepts _ _ c.scan_fixed-fixed.ensures (told_accepted c.scan_fixed-fixed.result _ c.is_refused.ensures c.if-is_refused.false);
+      table_value = c.fill.ensures;
+    }
 
 pub returns-then-is_refused-2 : goal.returns-then-is_refused-2
 returns-then-is_refused-2 c = search (files_steps, told_refused, told_accepted)
 
 pub scan_cost-requires : goal.scan_cost-requires
-scan_cost-requires c = let files = c.requires in record { links_bound = (files.ready.corridor_fits.few, files.ready.demands_fit.short, files.ready.wide, files.record_holds); total_value = c.scan_steps-step.ensures.adds (told_accepted c.scan_steps-step.result.answer _ c.is_refused-2.ensures c.if-is_refused-2.false) }
+scan_cost-requires c =
+    let files = c.requires in
+    record {
+      links_bound = (files.ready.corridor_fits.few, files.ready.demands_fit.short, files.ready.wide, files.record_holds);
+      total_value = c.scan_steps-step.ensures.adds (told_accepted c.scan_steps-step.result.answer _ c.is_refused-2.ensures c.if-is_refused-2.false);
+    }
 
 pub returns : goal.returns
 returns c = search (files_cost, told_accepted)

@@ -7,7 +7,8 @@ pub record_length-requires : goal.record_length-requires
 record_length-requires c = (c.requires.0, c.requires.1, record { least = omega arith; most = omega arith })
 
 pub returns-then-count-record_length : goal.returns-then-count-record_length
-returns-then-count-record_length c = (told_seven _ _ _ _ c.record_length.ensures c.if-count-record_length.true, record { least = omega arith; most = omega arith })
+returns-then-count-record_length c =
+    (told_seven _ _ _ _ c.record_length.ensures c.if-count-record_length.true, record { least = omega arith; most = omega arith })
 
 pub returns : goal.returns
 returns c = (told_three _ _ _ _ c.record_length.ensures c.if-count-record_length.false, record { least = omega arith; most = omega arith })

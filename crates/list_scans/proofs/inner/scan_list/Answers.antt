@@ -10,4 +10,8 @@ pub most_row-requires : goal.most_row-requires
 most_row-requires c = (c.requires.corridor_fits.0, simp length-take (omega (arith, c.requires.corridor_fits.0.few)))
 
 pub scan_rows-requires : goal.scan_rows-requires
-scan_rows-requires c = record { corridor_fits = (c.requires.corridor_fits.0, c.requires.corridor_fits.1, c.most_row.ensures); steps_bound = c.requires.steps_bound }
+scan_rows-requires c =
+    record {
+      corridor_fits = (c.requires.corridor_fits.0, c.requires.corridor_fits.1, c.most_row.ensures);
+      steps_bound = c.requires.steps_bound;
+    }

@@ -17,7 +17,9 @@ returns-then-flows-junction c = step_offered _ _ _ _ _ (omega arith) (omega arit
 
 pub returns-then-flows-junction-2 : goal.returns-then-flows-junction-2
 unfolding outflow
-returns-then-flows-junction-2 c = step_offered _ _ _ _ _ (omega (arith, c.sending-sent.ensures, c.if-flows-sent.false)) (omega (arith, c.through-through.ensures, c.if-through-flows.false)) (omega arith)
+returns-then-flows-junction-2 c =
+    step_offered _ _ _ _ _ (omega (arith, c.sending-sent.ensures, c.if-flows-sent.false))
+    (omega (arith, c.through-through.ensures, c.if-through-flows.false)) (omega arith)
 
 pub exit_fault-exit-requires : goal.exit_fault-exit-requires
 exit_fault-exit-requires c = c.requires.split_bound.0
@@ -25,10 +27,15 @@ exit_fault-exit-requires c = c.requires.split_bound.0
 pub moved-moved-requires : goal.moved-moved-requires
 -- 8, 9 and 10 passed
 moved-moved-requires c =
-    let permitted = permitted_told c.args.junction c.args.flows _ _ c.sending-sent.ensures c.if-flows-sent.false c.through-through.ensures c.if-through-flows.false c.if-flows-junction.false c.if-flows-junction-2.false in
-    record { main_le_vehicles = moved_asks c.args.junction c.args.flows permitted c.requires.split_bound.1; inflow_bound = c.requires.inflow_bound }
+    let permitted = permitted_told c.args.junction c.args.flows _ _ c.sending-sent.ensures c.if-flows-sent.false c.through-through.ensures
+    c.if-through-flows.false c.if-flows-junction.false c.if-flows-junction-2.false in
+    record {
+      main_le_vehicles = moved_asks c.args.junction c.args.flows permitted c.requires.split_bound.1;
+      inflow_bound = c.requires.inflow_bound;
+    }
 
 pub returns : goal.returns
 returns c =
-    let permitted = permitted_told c.args.junction c.args.flows _ _ c.sending-sent.ensures c.if-flows-sent.false c.through-through.ensures c.if-through-flows.false c.if-flows-junction.false c.if-flows-junction-2.false in
+    let permitted = permitted_told c.args.junction c.args.flows _ _ c.sending-sent.ensures c.if-flows-sent.false c.through-through.ensures
+    c.if-through-flows.false c.if-flows-junction.false c.if-flows-junction-2.false in
     step_left _ _ _ _ _ permitted _ _ _ _ c.moved-moved.ensures c.exit_fault-exit.ensures c.next_fault-next.ensures c.first_fault.ensures

@@ -12,9 +12,15 @@ record_width-width-requires c = let r = c.requires.ready in
     (omega (arith, c.links_of-links.ensures, r.corridor_fits.few), omega (arith, c.steps_of-steps.ensures, r.demands_fit.short))
 
 pub place_at-requires : goal.place_at-requires
-place_at-requires c = let s = c.steps_of-steps.ensures in
+place_at-requires c =
+    let s = c.steps_of-steps.ensures in
     let n = c.links_of-links.ensures in
-    let words = c.args.words.now in record { ready = ready_as _ _ _ words _ _ (ready_by _ _ words _ _ _ n s c.record_width-width.ensures.0 c.requires.ready) n s; words_value = judged_by _ _ words _ _ _ n s c.record_width-width.ensures.0 ∙ c.requires.words_value; step_lt_steps = (omega (arith, c.requires.step_bound.0), omega (arith, c.requires.step_bound.1)) }
+    let words = c.args.words.now in
+    record {
+      ready = ready_as _ _ _ words _ _ (ready_by _ _ words _ _ _ n s c.record_width-width.ensures.0 c.requires.ready) n s;
+      accepted = judged_by _ _ words _ _ _ n s c.record_width-width.ensures.0 ∙ c.requires.accepted;
+      step_lt_steps = (omega (arith, c.requires.step_bound.0), omega (arith, c.requires.step_bound.1));
+    }
 
 pub returns : goal.returns
 returns c = subst (λ (x : ℕ). PlaceAt x c.args.corridor.now c.args.demands.now c.args.words.now c.args.step c.args.node c.place_at.result)

@@ -10,7 +10,9 @@ pub loop-i-init : goal.loop-i-init
 loop-i-init c = moving_begun _ _ _ _ _ _ c.requires.0.state_fits c.requires.1
 
 pub move_node-moved-requires : goal.move_node-moved-requires
-move_node-moved-requires c = let all = moving_asks _ _ _ _ _ _ _ _ _ _ _ c.loop-i.invariant c.requires.0 (omega arith) c.requires.2 in record { node_in = all.0; move_kept = all.1 }
+move_node-moved-requires c =
+    let all = moving_asks _ _ _ _ _ _ _ _ _ _ _ c.loop-i.invariant c.requires.0 (omega arith) c.requires.2 in
+    record { node_in = all.0; move_kept = all.1 }
 
 pub overflow_add-total : goal.overflow_add-total
 overflow_add-total c = let s = c.loop-i.invariant.summed in

@@ -30,7 +30,9 @@ pub loop-i-smaller : goal.loop-i-smaller
 loop-i-smaller c = search all
 
 pub loop-i-preserved : goal.loop-i-preserved
-loop-i-preserved c = summed_more _ _ _ _ _ _ c.loop-i.invariant (omega arith) (c.load-total.ensures.0 ∙ ap (λ (x : NodeState). x.vehicles + x.queue) c.state_at.ensures) c.load-total.ensures.1
+loop-i-preserved c =
+    summed_more _ _ _ _ _ _ c.loop-i.invariant (omega arith)
+    (c.load-total.ensures.0 ∙ ap (λ (x : NodeState). x.vehicles + x.queue) c.state_at.ensures) c.load-total.ensures.1
 
 pub returns : goal.returns
 returns c = row_summed _ _ _ _ _ c.loop-i.invariant (omega arith) (omega arith)

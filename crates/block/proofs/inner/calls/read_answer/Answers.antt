@@ -10,7 +10,9 @@ pub length_of-requires : goal.length_of-requires
 length_of-requires c = search (told_sized, told_accepted)
 
 pub returns-then-is_refused-2 : goal.returns-then-is_refused-2
-returns-then-is_refused-2 c = let r = told_refused c.sized-size.result _ c.is_refused-2.ensures c.if-is_refused-2.true in search (read_room_wrong, told_accepted)
+returns-then-is_refused-2 c =
+    let r = told_refused c.sized-size.result _ c.is_refused-2.ensures c.if-is_refused-2.true in
+    search (read_room_wrong, told_accepted)
 
 pub file_answer-requires : goal.file_answer-requires
 file_answer-requires c = search (told_sized, told_accepted)

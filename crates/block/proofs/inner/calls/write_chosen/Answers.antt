@@ -5,7 +5,11 @@ use Rattle.block.proofs.Calls.{told_sized, write_told_wrong, write_told_left}
 use Rattle.block.proofs.inner.calls.write_chosen.Goals as goal
 
 pub returns-then-is_refused : goal.returns-then-is_refused
-returns-then-is_refused c = record { answered = search (rules, write_told_wrong, write_told_left, told_refused); lent = search (rules, write_told_wrong, write_told_left, told_refused) }
+returns-then-is_refused c =
+    record {
+      answered = search (rules, write_told_wrong, write_told_left, told_refused);
+      lent = search (rules, write_told_wrong, write_told_left, told_refused);
+    }
 
 pub list_kind-requires : goal.list_kind-requires
 list_kind-requires c = search (told_sized, told_accepted)

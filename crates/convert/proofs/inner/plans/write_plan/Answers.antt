@@ -12,9 +12,15 @@ record_width-width-requires c = let r = c.requires.ready in
     (omega (arith, c.links_of-links.ensures, r.corridor_fits.few), omega (arith, c.steps_of-steps.ensures, r.demands_fit.short))
 
 pub write_rows-requires : goal.write_rows-requires
-write_rows-requires c = let s = c.steps_of-steps.ensures in
+write_rows-requires c =
+    let s = c.steps_of-steps.ensures in
     let n = c.links_of-links.ensures in
-    let words = c.args.words.now in record { ready = ready_as _ _ _ _ _ _ (ready_by _ _ words _ _ _ n s c.record_width-width.ensures.0 c.requires.ready) n s; words_value = judged_by _ _ words _ _ _ n s c.record_width-width.ensures.0 ∙ c.requires.words_value; plan_len = plan_length_as _ _ c.args.plan.now _ _ c.requires.plan_len n s }
+    let words = c.args.words.now in
+    record {
+      ready = ready_as _ _ _ _ _ _ (ready_by _ _ words _ _ _ n s c.record_width-width.ensures.0 c.requires.ready) n s;
+      accepted = judged_by _ _ words _ _ _ n s c.record_width-width.ensures.0 ∙ c.requires.accepted;
+      plan_len = plan_length_as _ _ c.args.plan.now _ _ c.requires.plan_len n s;
+    }
 
 pub returns : goal.returns
 returns c = c.write_rows.ensures

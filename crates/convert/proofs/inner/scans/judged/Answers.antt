@@ -6,7 +6,9 @@ use Rattle.convert.proofs.Answers.{ready_as, fixed_asks, told_accepts, judged_fi
 use Rattle.convert.proofs.inner.scans.judged.Goals as goal
 
 pub scan_fixed-fixed-requires : goal.scan_fixed-fixed-requires
-scan_fixed-fixed-requires c = let all = fixed_asks _ _ _ _ _ _ c.requires c.links_of-links.ensures c.steps_of-steps.ensures in record { corridor_fits = all.0; steps_bound = all.1 }
+scan_fixed-fixed-requires c =
+    let all = fixed_asks _ _ _ _ _ _ c.requires c.links_of-links.ensures c.steps_of-steps.ensures in
+    record { corridor_fits = all.0; steps_bound = all.1 }
 
 pub returns-then-is_refused : goal.returns-then-is_refused
 returns-then-is_refused c = search (judged_fixed, told_refused)
@@ -19,7 +21,13 @@ fill-requires c = let ready = ready_as _ _ _ _ _ _ c.requires c.links_of-links.e
     (ready.corridor_fits, simp length-take (omega (arith, ready.corridor_fits.few)))
 
 pub scan_steps-step-requires : goal.scan_steps-step-requires
-scan_steps-step-requires c = record { ready = ready_as _ _ _ _ _ _ c.requires c.links_of-links.ensures c.steps_of-steps.ensures; words_value = told_accepts _ _ c.scan_fixed-fixed.ensures (told_accepted c.scan_fixed-fixed.result _ c.is_refused.ensures c.if-is_refused.false); table_value = c.fill.ensures }
+scan_steps-step-requires c =
+    record {
+      ready = ready_as _ _ _ _ _ _ c.requires c.links_of-links.ensures c.steps_of-steps.ensures;
+      fixed_accepted =
+          told_accepts _ _ c.scan_fixed-fixed.ensures (told_accepted c.scan_fixed-fixed.result _ c.is_refused.ensures c.if-is_refused.false);
+      table_value = c.fill.ensures;
+    }
 
 pub returns-then-is_refused-2 : goal.returns-then-is_refused-2
 returns-then-is_refused-2 c = search (judged_steps, told_refused, told_accepted)

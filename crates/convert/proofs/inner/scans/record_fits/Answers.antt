@@ -14,4 +14,6 @@ record_sized-requires c =
     (fit.few, fit.short)
 
 pub returns : goal.returns
-returns c = record_count _ _ _ _ _ _ (told_true _ _ c.sizes.ensures c.if-not-sizes.false) c.links_of-links.ensures c.steps_of-steps.ensures c.record_sized.ensures
+returns c =
+    record_count _ _ _ _ _ _ (told_true _ _ c.sizes.ensures c.if-not-sizes.false) c.links_of-links.ensures c.steps_of-steps.ensures
+    c.record_sized.ensures

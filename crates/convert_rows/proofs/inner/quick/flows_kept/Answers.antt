@@ -12,10 +12,14 @@ pub loop-i-init : goal.loop-i-init
 loop-i-init c = (omega arith, λ j h. absurd (omega arith))
 
 pub receiving_at-supply-requires : goal.receiving_at-supply-requires
-receiving_at-supply-requires c = let all = next_asks _ _ _ _ _ c.requires c.loop-i.i (omega arith) in record { node_in = all.0; i_bound = all.1 }
+receiving_at-supply-requires c = let all = next_asks _ _ _ _ _ c.requires c.loop-i.i (omega arith) in record { node_in = all.0; jam_kept = all.1 }
 
 pub flows_fit-requires : goal.flows_fit-requires
-flows_fit-requires c = record { node_in = node_room _ _ _ _ _ c.requires c.loop-i.i (omega arith); i_bound = (c.requires.rows.kept c.loop-i.i (omega arith)).split }
+flows_fit-requires c =
+    record {
+      node_in = node_room _ _ _ _ _ c.requires c.loop-i.i (omega arith);
+      split_bound = (c.requires.rows.kept c.loop-i.i (omega arith)).split;
+    }
 
 pub returns-then-not-flows_fit : goal.returns-then-not-flows_fit
 returns-then-not-flows_fit c e = absurd (true≢false (sym e))
@@ -30,7 +34,11 @@ loop-i-preserved c = (
 )
 
 pub flows_fit-requires-2 : goal.flows_fit-requires-2
-flows_fit-requires-2 c = record { node_in = node_room _ _ _ _ _ c.requires c.args.links (omega arith); i_bound = (c.requires.rows.kept c.args.links (omega arith)).split }
+flows_fit-requires-2 c =
+    record {
+      node_in = node_room _ _ _ _ _ c.requires c.args.links (omega arith);
+      split_bound = (c.requires.rows.kept c.args.links (omega arith)).split;
+    }
 
 pub returns : goal.returns
 returns c e = flows_ended _ _ _ _ _ _ (λ j h. c.loop-i.invariant.1 j (omega arith)) (c.flows_fit-2.ensures e)

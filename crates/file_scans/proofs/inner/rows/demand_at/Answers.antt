@@ -22,11 +22,17 @@ clear-requires c = demand_length _ _ _ _ c.demand_row.ensures ∙ sym (ap length
 
 pub returns-then-clear : goal.returns-then-clear
 unfolding ReadsRow
-returns-then-clear c = demand_found _ _ _ _ _ c.demand_row.ensures c.requires.steps_bound.1 Demand c.args.corridor.now _ _
-    (clear_accepts Demand _ _ _ _ _ _ tt (demand_length _ _ _ _ c.demand_row.ensures) c.requires.corridor_fits.1 (c.clear.ensures c.if-clear.true)) c.downstream-downstream.ensures
+returns-then-clear c =
+    demand_found _ _ _ _ _ c.demand_row.ensures c.requires.steps_bound.1 Demand c.args.corridor.now _ _
+    (clear_accepts Demand _ _ _ _ _ _ tt (demand_length _ _ _ _ c.demand_row.ensures) c.requires.corridor_fits.1 (c.clear.ensures c.if-clear.true))
+    c.downstream-downstream.ensures
 
 pub scan_nodes-requires : goal.scan_nodes-requires
-scan_nodes-requires c = record { corridor_fits = c.requires.corridor_fits.0; k_bound = (omega (arith, c.requires.steps_bound), row_for _ _ _ (demand_length _ _ _ _ c.demand_row.ensures)) }
+scan_nodes-requires c =
+    record {
+      corridor_fits = c.requires.corridor_fits.0;
+      k_bound = (omega (arith, c.requires.steps_bound), row_for _ _ _ (demand_length _ _ _ _ c.demand_row.ensures));
+    }
 
 pub returns : goal.returns
 returns c = demand_found _ _ _ _ _ c.demand_row.ensures c.requires.steps_bound.1 _ _ _ _ c.scan_nodes.ensures c.downstream-downstream.ensures

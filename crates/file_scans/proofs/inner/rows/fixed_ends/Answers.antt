@@ -12,6 +12,7 @@ returns-then-is_refused c = let a = c.fixed_node-answer in
     (ends_stop _ _ _ _ _ _ c.requires.steps_bound.2 c.requires.steps_bound.3 _ a.ensures (told_refused a.result _ c.is_refused.ensures c.if-is_refused.true))
 
 pub returns : goal.returns
-returns c = let a = c.fixed_node-answer in
-    fixed_found _ c.requires.steps_bound.1 _ _ _ _ _ refl (omega (arith, c.requires.steps_bound)) _ _
-    (ends_ended _ _ _ _ _ _ c.requires.steps_bound.2 c.requires.steps_bound.3 _ a.ensures _ (told_accepted a.result _ c.is_refused.ensures c.if-is_refused.false) c.fixed_node.ensures)
+returns c =
+    let a = c.fixed_node-answer in
+    fixed_found _ c.requires.steps_bound.1 _ _ _ _ _ refl (omega (arith, c.requires.steps_bound)) _ _ (ends_ended _ _ _ _ _ _ c.requires.steps_bound.2
+    c.requires.steps_bound.3 _ a.ensures _ (told_accepted a.result _ c.is_refused.ensures c.if-is_refused.false) c.fixed_node.ensures)

@@ -28,5 +28,6 @@ pub overflow_cast-i : goal.overflow_cast-i
 overflow_cast-i c = omega (arith, c.requires.steps_bound, c.requires.corridor_fits.few)
 
 pub returns : goal.returns
-returns c = refusal_told _ _ _ _ _ c.refusal.ensures
-    (fixed_node_is _ c.requires.steps_bound.1 _ _ _ _ _ c.node_words.ensures c.requires.steps_bound.3 _ _ _ _ _ _ _ c.fixed_fault-number.ensures c.start_at-start.ensures c.state_at-state.ensures c.flows_at-flows.ensures c.exit_at-said.ensures)
+returns c =
+    refusal_told _ _ _ _ _ c.refusal.ensures (fixed_node_is _ c.requires.steps_bound.1 _ _ _ _ _ c.node_words.ensures c.requires.steps_bound.3 _ _ _ _
+    _ _ _ c.fixed_fault-number.ensures c.start_at-start.ensures c.state_at-state.ensures c.flows_at-flows.ensures c.exit_at-said.ensures)

@@ -13,7 +13,11 @@ pub state_row-requires : goal.state_row-requires
 state_row-requires c = record { links_bound = search rules; row_len = simp length-take (omega (arith, c.state_words-wide.ensures)) }
 
 pub fixed_row-requires : goal.fixed_row-requires
-fixed_row-requires c = record { corridor_fits = c.requires.corridor_fits; k_bound = (omega (arith, c.requires.steps_bound), state_length _ _ _ _ _ c.state_row.ensures, c.requires.steps_bound.1) }
+fixed_row-requires c =
+    record {
+      corridor_fits = c.requires.corridor_fits;
+      k_bound = (omega (arith, c.requires.steps_bound), state_length _ _ _ _ _ c.state_row.ensures, c.requires.steps_bound.1);
+    }
 
 pub returns : goal.returns
 returns c = fixed_found _ c.requires.steps_bound.1 _ _ _ _ _ c.state_row.ensures c.requires.steps_bound.2 _ _ c.fixed_row.ensures

@@ -24,7 +24,13 @@ pub slice_bounds-row-end : goal.slice_bounds-row-end
 slice_bounds-row-end c = simp length-take (omega arith)
 
 pub step_rows-requires : goal.step_rows-requires
-step_rows-requires c = let files = c.requires.files_ready in record { links_bound = (files.ready.corridor_fits.few, files.ready.demands_fit.short, files.ready.wide, c.requires.k_lt_steps.0); holds = (files.demands_hold, files.record_holds); demand_len = (simp length-take (omega arith), simp length-take (omega (arith, c.state_words-wide.ensures))) }
+step_rows-requires c =
+    let files = c.requires.files_ready in
+    record {
+      links_bound = (files.ready.corridor_fits.few, files.ready.demands_fit.short, files.ready.wide, c.requires.k_lt_steps.0);
+      holds = (files.demands_hold, files.record_holds);
+      demand_len = (simp length-take (omega arith), simp length-take (omega (arith, c.state_words-wide.ensures)));
+    }
 
 pub slice_bounds-after-end : goal.slice_bounds-after-end
 slice_bounds-after-end c = simp length-take (omega arith)
@@ -33,13 +39,30 @@ pub overflow_add-k : goal.overflow_add-k
 overflow_add-k c = omega (arith, c.requires.k_lt_steps.0)
 
 pub state_row-requires : goal.state_row-requires
-state_row-requires c = let files = c.requires.files_ready in record { links_bound = (files.ready.corridor_fits.few, files.ready.demands_fit.short, files.ready.wide, omega (arith, c.requires.k_lt_steps.0), files.record_holds); row_len = simp length-take (omega (arith, c.state_words-wide.ensures)) }
+state_row-requires c =
+    let files = c.requires.files_ready in
+    record {
+      links_bound =
+          (files.ready.corridor_fits.few, files.ready.demands_fit.short, files.ready.wide, omega (arith, c.requires.k_lt_steps.0), files.record_holds);
+      row_len = simp length-take (omega (arith, c.state_words-wide.ensures));
+    }
 
 pub step_row-requires : goal.step_row-requires
-step_row-requires c = let ready = c.requires.files_ready.ready in
-    let here = c.requires.k_lt_steps in record { rows_kept = step_keeps _ _ _ _ _ _ ready _ _ _ c.step_rows.ensures.0 c.step_rows.ensures.1 here.0 c.requires.recorded_value c.requires.k_value; row_fits = (state_length _ _ _ _ _ c.state_row.ensures, omega (arith, ready.demands_fit.short, here.0), here.1) }
+step_row-requires c =
+    let ready = c.requires.files_ready.ready in
+    let here = c.requires.k_lt_steps in
+    record {
+      rows_kept = step_keeps _ _ _ _ _ _ ready _ _ _ c.step_rows.ensures.0 c.step_rows.ensures.1 here.0 c.requires.fixed_accepted c.requires.steps_accepted;
+      row_fits = (state_length _ _ _ _ _ c.state_row.ensures, omega (arith, ready.demands_fit.short, here.0), here.1);
+    }
 
 pub returns : goal.returns
-returns c = let ready = c.requires.files_ready.ready in
+returns c =
+    let ready = c.requires.files_ready.ready in
     let here = c.requires.k_lt_steps.0 in
-    record { found = step_found _ _ _ _ _ _ ready _ _ _ c.step_rows.ensures.0 c.step_rows.ensures.1 here _ c.downstream.ensures _ _ c.state_row.ensures c.step_row.ensures.found; adds = (cost_found _ ready.wide _ _ _ _ _ c.state_row.ensures here _ c.step_row.ensures.adds.0, c.step_row.ensures.adds.1) }
+    record {
+      found =
+          step_found _ _ _ _ _ _ ready _ _ _ c.step_rows.ensures.0 c.step_rows.ensures.1 here _ c.downstream.ensures _ _ c.state_row.ensures
+          c.step_row.ensures.found;
+      adds = (cost_found _ ready.wide _ _ _ _ _ c.state_row.ensures here _ c.step_row.ensures.adds.0, c.step_row.ensures.adds.1);
+    }

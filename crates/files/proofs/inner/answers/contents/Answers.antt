@@ -4,7 +4,13 @@ use Rattle.files.proofs.Contents.{list_corridor, list_demands, list_files, conte
 use Rattle.files.proofs.inner.answers.contents.Goals as goal
 
 pub ranges-answer-requires : goal.ranges-answer-requires
-ranges-answer-requires c = let fit = c.requires.files_fit in record { corridor_fits = list_corridor _ _ _ _ _ fit _ _ c.unpack.ensures c.requires.list_len; demands_fit = list_demands _ _ _ _ _ fit _ _ c.unpack.ensures c.requires.list_len; holds = fit.demands_hold }
+ranges-answer-requires c =
+    let fit = c.requires.files_fit in
+    record {
+      corridor_fits = list_corridor _ _ _ _ _ fit _ _ c.unpack.ensures c.requires.list_len;
+      demands_fit = list_demands _ _ _ _ _ fit _ _ c.unpack.ensures c.requires.list_len;
+      holds = fit.demands_hold;
+    }
 
 pub returns-then-is_refused : goal.returns-then-is_refused
 returns-then-is_refused c = contents_stop _ _ _ _ _ c.requires.files_fit _ _ c.unpack.ensures c.requires.list_len _ c.ranges-answer.ensures

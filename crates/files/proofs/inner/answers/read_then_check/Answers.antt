@@ -12,8 +12,13 @@ pub slice_bounds-list-end : goal.slice_bounds-list-end
 slice_bounds-list-end c = simp length-take (omega arith)
 
 pub contents-requires : goal.contents-requires
-contents-requires c = let h = told_accepted c.files_answer-answer.result _ c.is_refused.ensures c.if-is_refused.false in
-    let count = c.corridor_count-count.ensures in record { files_fit = files_fit _ _ _ _ _ _ c.requires c.files_answer-answer.ensures h; list_len = simp length-take (omega (arith, count)) }
+contents-requires c =
+    let h = told_accepted c.files_answer-answer.result _ c.is_refused.ensures c.if-is_refused.false in
+    let count = c.corridor_count-count.ensures in
+    record {
+      files_fit = files_fit _ _ _ _ _ _ c.requires c.files_answer-answer.ensures h;
+      list_len = simp length-take (omega (arith, count));
+    }
 
 pub returns : goal.returns
 returns c = let h = told_accepted c.files_answer-answer.result _ c.is_refused.ensures c.if-is_refused.false in

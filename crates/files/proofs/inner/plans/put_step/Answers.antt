@@ -24,7 +24,13 @@ pub slice_bounds-row-end : goal.slice_bounds-row-end
 slice_bounds-row-end c = simp length-take (omega arith)
 
 pub step_rows-requires : goal.step_rows-requires
-step_rows-requires c = let files = c.requires.files_kept.files in record { links_bound = (files.ready.corridor_fits.few, files.ready.demands_fit.short, files.ready.wide, c.requires.k_lt_steps.0); holds = (files.demands_hold, files.record_holds); demand_len = (simp length-take (omega arith), simp length-take (omega (arith, c.state_words-wide.ensures))) }
+step_rows-requires c =
+    let files = c.requires.files_kept.files in
+    record {
+      links_bound = (files.ready.corridor_fits.few, files.ready.demands_fit.short, files.ready.wide, c.requires.k_lt_steps.0);
+      holds = (files.demands_hold, files.record_holds);
+      demand_len = (simp length-take (omega arith), simp length-take (omega (arith, c.state_words-wide.ensures)));
+    }
 
 pub slice_bounds-plan_room-end : goal.slice_bounds-plan_room-end
 slice_bounds-plan_room-end c = omega (arith, c.requires.files_kept.files.ready.corridor_fits.few)
@@ -43,7 +49,11 @@ plan_row-requires c = let rows = c.step_rows.ensures in
     }
 
 pub row_at-requires : goal.row_at-requires
-row_at-requires c = (c.requires.k_lt_steps.0, omega (arith, c.requires.files_kept.files.ready.demands_fit.short), omega (arith, c.requires.files_kept.files.ready.corridor_fits.few))
+row_at-requires c = (
+  c.requires.k_lt_steps.0,
+  omega (arith, c.requires.files_kept.files.ready.demands_fit.short),
+  omega (arith, c.requires.files_kept.files.ready.corridor_fits.few),
+)
 
 pub put-requires : goal.put-requires
 put-requires c = put_fits _ _ _ _ _ _ _ _ _ _ c.plan_row.ensures c.requires.k_lt_steps.1 c.row_at.ensures.1

@@ -10,4 +10,9 @@ pub slice_bounds-list-end : goal.slice_bounds-list-end
 slice_bounds-list-end c = simp length-take (omega arith)
 
 pub fill_plan-requires : goal.fill_plan-requires
-fill_plan-requires c = record { files_fit = c.requires.files_fit; accepts = c.requires.accepts; list_len = (simp length-take (omega (arith, c.corridor_count-count.ensures)), c.requires.holds) }
+fill_plan-requires c =
+    record {
+      files_fit = c.requires.files_fit;
+      accepts = c.requires.accepts;
+      list_len = (simp length-take (omega (arith, c.corridor_count-count.ensures)), c.requires.holds);
+    }

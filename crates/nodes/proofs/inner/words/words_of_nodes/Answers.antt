@@ -38,8 +38,8 @@ loop-i-preserved c =
       bound = omega arith;
       long = search rules;
       copied =
-          upto_more c.args.nodes.now c.loop-i.i c.loop-i.words c.with_node-words.result c.node_at-node.result (omega (arith, at.count)) at.long c.node_at-node.ensures
-          c.with_node-words.ensures at.copied;
+          upto_more c.args.nodes.now c.loop-i.i c.loop-i.words c.with_node-words.result c.node_at-node.result (omega (arith, at.count)) at.long
+          c.node_at-node.ensures c.with_node-words.ensures at.copied;
     }
 
 pub returns : goal.returns

@@ -7,7 +7,7 @@ pub loop-i-init : goal.loop-i-init
 loop-i-init c = search all
 
 pub print_node-line-requires : goal.print_node-line-requires
-print_node-line-requires c = record { input_value = c.requires.input_value; k_bound = (c.requires.k_bound.0, omega (arith, c.requires.k_bound.1)) }
+print_node-line-requires c = record { accepted = c.requires.accepted; k_bound = (c.requires.k_bound.0, omega (arith, c.requires.k_bound.1)) }
 
 pub overflow_add-bytes : goal.overflow_add-bytes
 overflow_add-bytes c = search all

@@ -7,7 +7,11 @@ pub loop-k-init : goal.loop-k-init
 loop-k-init c = search all
 
 pub print_step-step-requires : goal.print_step-step-requires
-print_step-step-requires c = record { input_value = c.requires.input_value; k_bound = (omega (arith, c.requires.steps_value.0), c.requires.nodes_value.0, c.requires.nodes_value.1) }
+print_step-step-requires c =
+    record {
+      accepted = c.requires.accepted;
+      k_bound = (omega (arith, c.requires.steps_value.0), c.requires.nodes_value.0, c.requires.nodes_value.1);
+    }
 
 pub overflow_add-bytes : goal.overflow_add-bytes
 overflow_add-bytes c = search all

@@ -42,8 +42,10 @@ pub slice_bounds-copy_run-end : goal.slice_bounds-copy_run-end
 slice_bounds-copy_run-end c = search all
 
 pub copy_run-requires : goal.copy_run-requires
-copy_run-requires c = let n = c.run_of.ensures in
-    run_fits _ _ _ _ _ _ _ c.requires n.0 (omega (arith, n.1, c.loop-i.invariant.same)) n.2 refl (simp (length-take, length-drop) (omega (arith, n.1, c.loop-i.invariant.same)))
+copy_run-requires c =
+    let n = c.run_of.ensures in
+    run_fits _ _ _ _ _ _ _ c.requires n.0 (omega (arith, n.1, c.loop-i.invariant.same)) n.2 refl
+    (simp (length-take, length-drop) (omega (arith, n.1, c.loop-i.invariant.same)))
 
 pub loop-i-smaller : goal.loop-i-smaller
 loop-i-smaller c = search all

@@ -17,7 +17,10 @@ word_at-steps-requires c = omega (arith, kept_block _ (input_kept _ c.requires) 
 
 pub layout_of-requires : goal.layout_of-requires
 unfolding links_in
-layout_of-requires c = (kept_steps _ (input_kept _ c.requires) _ c.word_at-n.ensures _ c.corridor_blocks-block.ensures.0 _ c.word_at-steps.ensures, c.corridor_blocks-block.ensures.1)
+layout_of-requires c = (
+  kept_steps _ (input_kept _ c.requires) _ c.word_at-n.ensures _ c.corridor_blocks-block.ensures.0 _ c.word_at-steps.ensures,
+  c.corridor_blocks-block.ensures.1,
+)
 
 pub returns : goal.returns
 unfolding links_in

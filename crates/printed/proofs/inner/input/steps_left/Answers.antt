@@ -7,7 +7,15 @@ pub returns-then-input-block : goal.returns-then-input-block
 returns-then-input-block c = search steps_short
 
 pub files_left-requires : goal.files_left-requires
-files_left-requires c = record { told = (told_is _ _ _ c.told_fits.ensures c.if-told_fits.true, c.corridor_blocks-block.ensures.1); n_value = (c.requires.n_value, steps_are _ _ c.requires.n_value _ c.corridor_blocks-block.ensures.0 _ c.word_at-k.ensures); block_value = (start _ _ c.requires.n_value _ c.corridor_blocks-block.ensures.0, kind_is_lem _ _ c.requires.n_value _ c.corridor_blocks-block.ensures.0 _ c.kind_at-kind.ensures) }
+files_left-requires c =
+    record {
+      told = (told_is _ _ _ c.told_fits.ensures c.if-told_fits.true, c.corridor_blocks-block.ensures.1);
+      n_value = (c.requires.n_value, steps_are _ _ c.requires.n_value _ c.corridor_blocks-block.ensures.0 _ c.word_at-k.ensures);
+      block_value = (
+        start _ _ c.requires.n_value _ c.corridor_blocks-block.ensures.0,
+        kind_is_lem _ _ c.requires.n_value _ c.corridor_blocks-block.ensures.0 _ c.kind_at-kind.ensures,
+      );
+    }
 
 pub returns-then-told_fits : goal.returns-then-told_fits
 returns-then-told_fits c = search steps_good

@@ -24,7 +24,13 @@ pub slice_bounds-row-end : goal.slice_bounds-row-end
 slice_bounds-row-end c = simp length-take (omega arith)
 
 pub step_rows-requires : goal.step_rows-requires
-step_rows-requires c = let files = c.requires.files_kept.files in record { links_bound = (files.ready.corridor_fits.few, files.ready.demands_fit.short, files.ready.wide, c.requires.k_lt_steps.0); holds = (files.demands_hold, files.record_holds); demand_len = (simp length-take (omega arith), simp length-take (omega (arith, c.state_words-wide.ensures))) }
+step_rows-requires c =
+    let files = c.requires.files_kept.files in
+    record {
+      links_bound = (files.ready.corridor_fits.few, files.ready.demands_fit.short, files.ready.wide, c.requires.k_lt_steps.0);
+      holds = (files.demands_hold, files.record_holds);
+      demand_len = (simp length-take (omega arith), simp length-take (omega (arith, c.state_words-wide.ensures)));
+    }
 
 pub setting_at-requires : goal.setting_at-requires
 setting_at-requires c = let rows = c.step_rows.ensures in
@@ -37,6 +43,7 @@ setting_at-requires c = let rows = c.step_rows.ensures in
     }
 
 pub returns : goal.returns
-returns c = let rows = c.step_rows.ensures in
-    c.setting_at.ensures
-    ∙ setting_found _ _ _ _ _ _ c.requires.files_kept.files.ready _ _ _ rows.0 rows.1 c.requires.k_lt_steps.0 _ c.downstream-downstream.ensures _ c.requires.k_lt_steps.1
+returns c =
+    let rows = c.step_rows.ensures in
+    c.setting_at.ensures ∙ setting_found _ _ _ _ _ _ c.requires.files_kept.files.ready _ _ _ rows.0 rows.1 c.requires.k_lt_steps.0 _
+    c.downstream-downstream.ensures _ c.requires.k_lt_steps.1

@@ -12,7 +12,8 @@ pub write_block-requires : goal.write_block-requires
 write_block-requires c = (simp (length-take, length-drop) (omega arith), simp (length-take, length-drop) (omega arith))
 
 pub loop-t-preserved : goal.loop-t-preserved
-loop-t-preserved c = written_more _ _ _ _ _ _ _ _ _ _ c.loop-t.invariant (omega arith) refl refl c.words_in.ensures c.blocks_for-blocks.ensures c.write_block.ensures
+loop-t-preserved c =
+    written_more _ _ _ _ _ _ _ _ _ _ c.loop-t.invariant (omega arith) refl refl c.words_in.ensures c.blocks_for-blocks.ensures c.write_block.ensures
 
 pub returns : goal.returns
 returns c = search file_ended

@@ -19,10 +19,14 @@ pub record_sized-requires : goal.record_sized-requires
 record_sized-requires c = few _ _ _ _ _ c.sizes.ensures c.if-sizes.true c.links_of-links.ensures c.steps_of-steps.ensures
 
 pub returns-then-plan-plan_length : goal.returns-then-plan-plan_length
-returns-then-plan-plan_length c = record_decides _ _ _ _ _ c.sizes.ensures c.if-sizes.true _ _ c.links_of-links.ensures c.steps_of-steps.ensures _ _ c.plan_length.ensures c.if-plan-plan_length.true c.record_sized.ensures
+returns-then-plan-plan_length c =
+    record_decides _ _ _ _ _ c.sizes.ensures c.if-sizes.true _ _ c.links_of-links.ensures c.steps_of-steps.ensures _ _ c.plan_length.ensures
+    c.if-plan-plan_length.true c.record_sized.ensures
 
 pub returns-then-sizes : goal.returns-then-sizes
-returns-then-sizes c = plan_fails _ _ _ _ _ c.sizes.ensures c.if-sizes.true _ _ c.links_of-links.ensures c.steps_of-steps.ensures _ c.plan_length.ensures c.if-plan-plan_length.false
+returns-then-sizes c =
+    plan_fails _ _ _ _ _ c.sizes.ensures c.if-sizes.true _ _ c.links_of-links.ensures c.steps_of-steps.ensures _ c.plan_length.ensures
+    c.if-plan-plan_length.false
 
 pub returns : goal.returns
 returns c = sizes_fail _ _ _ _ _ c.sizes.ensures c.if-sizes.false

@@ -17,7 +17,8 @@ pub returns-then-is_refused : goal.returns-then-is_refused
 returns-then-is_refused c = search (answer_one, told_refused)
 
 pub ranges-answer-requires : goal.ranges-answer-requires
-ranges-answer-requires c = (answer_lengths _ _ _ _ _ c.fits.ensures _ c.sized-size.ensures (told_accepted _ _ c.is_refused.ensures c.if-is_refused.false)).listed
+ranges-answer-requires c =
+    (answer_lengths _ _ _ _ _ c.fits.ensures _ c.sized-size.ensures (told_accepted _ _ c.is_refused.ensures c.if-is_refused.false)).listed
 
 pub is_refused-requires-2 : goal.is_refused-requires-2
 is_refused-requires-2 c = search all
@@ -26,7 +27,9 @@ pub returns-then-is_refused-2 : goal.returns-then-is_refused-2
 returns-then-is_refused-2 c = search (answer_ranges, told_refused, told_accepted)
 
 pub bounds-requires : goal.bounds-requires
-bounds-requires c = let l = answer_lengths _ _ _ _ _ c.fits.ensures _ c.sized-size.ensures (told_accepted _ _ c.is_refused.ensures c.if-is_refused.false) in record { demands_value = l.listed; plan_len = l.plan_fits }
+bounds-requires c =
+    let l = answer_lengths _ _ _ _ _ c.fits.ensures _ c.sized-size.ensures (told_accepted _ _ c.is_refused.ensures c.if-is_refused.false) in
+    record { sizes_fit = l.listed; plan_len = l.plan_fits }
 
 pub returns : goal.returns
 returns c = search (answer_bounds, told_accepted)

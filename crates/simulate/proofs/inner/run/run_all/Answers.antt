@@ -29,7 +29,10 @@ pub slice_bounds-table-end : goal.slice_bounds-table-end
 slice_bounds-table-end c = simp length-take (omega (arith, c.requires.sound.0.corridor_fits.few, c.links_of-links.ensures))
 
 pub fill-requires : goal.fill-requires
-fill-requires c = (corridor_fits_lem _ _ _ _ c.requires.sound.0 c.links_of-links.ensures, simp length-take (omega (arith, c.requires.sound.0.corridor_fits.few, c.links_of-links.ensures)))
+fill-requires c = (
+  corridor_fits_lem _ _ _ _ c.requires.sound.0 c.links_of-links.ensures,
+  simp length-take (omega (arith, c.requires.sound.0.corridor_fits.few, c.links_of-links.ensures)),
+)
 
 pub slice_bounds-state_room-end : goal.slice_bounds-state_room-end
 slice_bounds-state_room-end c = search all
@@ -38,7 +41,10 @@ pub slice_bounds-state-end : goal.slice_bounds-state-end
 slice_bounds-state-end c = simp length-take (omega (arith, c.requires.sound.0.corridor_fits.few, c.links_of-links.ensures))
 
 pub start-requires : goal.start-requires
-start-requires c = (corridor_fits_lem _ _ _ _ c.requires.sound.0 c.links_of-links.ensures, simp length-take (omega (arith, c.requires.sound.0.corridor_fits.few, c.links_of-links.ensures)))
+start-requires c = (
+  corridor_fits_lem _ _ _ _ c.requires.sound.0 c.links_of-links.ensures,
+  simp length-take (omega (arith, c.requires.sound.0.corridor_fits.few, c.links_of-links.ensures)),
+)
 
 pub slice_bounds-flow_room-end : goal.slice_bounds-flow_room-end
 slice_bounds-flow_room-end c = search all

@@ -10,7 +10,12 @@ pub loop-k-init : goal.loop-k-init
 loop-k-init c = (ran_begun _ _ _ _ _ _ c.requires.run_at, c.requires.row_fits.0)
 
 pub step_at-total-requires : goal.step_at-total-requires
-step_at-total-requires c = record { sound = (c.requires.sound, omega (arith, c.steps_of-steps.ensures)); run_at = c.loop-k.invariant.0.keeps; row_fits = (c.loop-k.invariant.1, c.requires.row_fits.1) }
+step_at-total-requires c =
+    record {
+      sound = (c.requires.sound, omega (arith, c.steps_of-steps.ensures));
+      run_at = c.loop-k.invariant.0.keeps;
+      row_fits = (c.loop-k.invariant.1, c.requires.row_fits.1);
+    }
 
 pub overflow_add-total : goal.overflow_add-total
 overflow_add-total c = omega (arith, c.loop-k.invariant.0.low, c.loop-k.invariant.0.bound, c.step_at-total.ensures.low, c.requires.sound.steps)
@@ -35,4 +40,8 @@ pub shape_of-row : goal.shape_of-row
 shape_of-row c = search all
 
 pub returns : goal.returns
-returns c = record { reached = ran_state_lem _ _ _ _ _ _ _ _ c.loop-k.invariant.0 (omega (arith, c.steps_of-steps.ensures)); adds = ran_cost_lem _ _ _ _ _ _ _ _ c.loop-k.invariant.0 (omega (arith, c.steps_of-steps.ensures)) }
+returns c =
+    record {
+      reached = ran_state_lem _ _ _ _ _ _ _ _ c.loop-k.invariant.0 (omega (arith, c.steps_of-steps.ensures));
+      adds = ran_cost_lem _ _ _ _ _ _ _ _ c.loop-k.invariant.0 (omega (arith, c.steps_of-steps.ensures));
+    }

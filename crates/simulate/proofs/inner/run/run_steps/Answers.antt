@@ -22,7 +22,8 @@ overflow_add-count c = search all
 pub loop-k-init : goal.loop-k-init
 loop-k-init c = (
   ran_begun _ _ _ _ _ _ c.requires.run_at,
-  rowed_begun _ _ _ _ (states_room _ _ _ _ _ _ c.args.states.now c.links_of-links.ensures c.steps_of-steps.ensures c.state_words-wide.ensures.0 c.requires.states_len),
+  rowed_begun _ _ _ _
+      (states_room _ _ _ _ _ _ c.args.states.now c.links_of-links.ensures c.steps_of-steps.ensures c.state_words-wide.ensures.0 c.requires.states_len),
 )
 
 pub row_at-at-requires : goal.row_at-at-requires
@@ -44,7 +45,16 @@ pub slice_bounds-step_at-end : goal.slice_bounds-step_at-end
 slice_bounds-step_at-end c = search all
 
 pub step_at-total-requires : goal.step_at-total-requires
-step_at-total-requires c = record { sound = (c.requires.sound.0, omega (arith, c.steps_of-steps.ensures)); run_at = c.loop-k.invariant.0.keeps; row_fits = (part_fits _ _ _ _ _ _ c.loop-k.states c.links_of-links.ensures c.state_words-wide.ensures.0 c.row_at-at.ensures.1 c.loop-k.invariant.1.room, c.requires.sound.1) }
+step_at-total-requires c =
+    record {
+      sound = (c.requires.sound.0, omega (arith, c.steps_of-steps.ensures));
+      run_at = c.loop-k.invariant.0.keeps;
+      row_fits = (
+        part_fits _ _ _ _ _ _ c.loop-k.states c.links_of-links.ensures c.state_words-wide.ensures.0 c.row_at-at.ensures.1
+            c.loop-k.invariant.1.room,
+        c.requires.sound.1,
+      );
+    }
 
 pub overflow_add-total : goal.overflow_add-total
 overflow_add-total c = omega (arith, c.loop-k.invariant.0.low, c.loop-k.invariant.0.bound, c.step_at-total.ensures.low, c.requires.sound.0.steps)
@@ -56,10 +66,12 @@ pub loop-k-smaller : goal.loop-k-smaller
 loop-k-smaller c = search all
 
 pub loop-k-preserved : goal.loop-k-preserved
-loop-k-preserved c = let e = c.step_at-total.ensures in
+loop-k-preserved c =
+    let e = c.step_at-total.ensures in
     let h : c.loop-k.k < steps_of c.args.demands.now = omega (arith, c.steps_of-steps.ensures) in (
       ran_more _ _ _ _ _ _ _ _ _ _ _ _ _ c.loop-k.invariant.0 h e,
-      run_row _ _ _ _ _ _ _ _ _ _ _ c.loop-k.invariant.1 h (omega arith) (row_wide _ _ _ _ c.links_of-links.ensures c.state_words-wide.ensures.0) c.row_at-at.ensures.0 e.written,
+      run_row _ _ _ _ _ _ _ _ _ _ _ c.loop-k.invariant.1 h (omega arith) (row_wide _ _ _ _ c.links_of-links.ensures c.state_words-wide.ensures.0)
+          c.row_at-at.ensures.0 e.written,
     )
 
 pub row_at-last-requires : goal.row_at-last-requires
@@ -100,11 +112,12 @@ pub shape_of-states : goal.shape_of-states
 shape_of-states c = search all
 
 pub returns : goal.returns
-returns c = let steps = c.steps_of-steps.ensures in
+returns c =
+    let steps = c.steps_of-steps.ensures in
     let wide = row_wide _ _ _ _ c.links_of-links.ensures c.state_words-wide.ensures.0 in
     let all : steps_of c.args.demands.now ≤ c.loop-k.k = omega (arith, steps) in
-    let last = run_last_row _ _ _ _ _ _ _ _ _ _ _ _ c.loop-k.invariant.1 (omega (arith, c.loop-k.invariant.0.bound, steps)) steps (omega arith) wide c.row_at-last.ensures.0
-    (ran_last _ _ _ _ _ _ _ _ c.loop-k.invariant.0 all _ _ _ c.links_of-links.ensures c.rest_row.ensures) in
+    let last = run_last_row _ _ _ _ _ _ _ _ _ _ _ _ c.loop-k.invariant.1 (omega (arith, c.loop-k.invariant.0.bound, steps)) steps (omega arith) wide
+    c.row_at-last.ensures.0 (ran_last _ _ _ _ _ _ _ _ c.loop-k.invariant.0 all _ _ _ c.links_of-links.ensures c.rest_row.ensures) in
     record {
       written = run_words_lem _ _ _ _ _ _ _ _ _ last (omega arith) (omega (arith, steps)) wide;
       adds = ran_cost_lem _ _ _ _ _ _ _ _ c.loop-k.invariant.0 all;

@@ -29,7 +29,8 @@ pub overflow_add-to : goal.overflow_add-to
 overflow_add-to c = search all
 
 pub downstream_at-downstream-requires : goal.downstream_at-downstream-requires
-downstream_at-downstream-requires c = demands_read _ _ _ _ _ _ c.requires.sound.0 c.links_of-links.ensures c.requires.sound.1 c.row_at-at.ensures.0 _ c.steps_of-steps.ensures
+downstream_at-downstream-requires c =
+    demands_read _ _ _ _ _ _ c.requires.sound.0 c.links_of-links.ensures c.requires.sound.1 c.row_at-at.ensures.0 _ c.steps_of-steps.ensures
 
 pub offset_bounds-demands-from : goal.offset_bounds-demands-from
 offset_bounds-demands-from c = search all
@@ -56,7 +57,11 @@ pub slice_bounds-step-end-2 : goal.slice_bounds-step-end-2
 slice_bounds-step-end-2 c = omega (arith, rows_inside _ _ _ _ _ _ c.requires.sound.0 c.links_of-links.ensures c.requires.sound.1 c.row_at-at.ensures.0)
 
 pub step-requires : goal.step-requires
-step-requires c = record { rows_fit = rows_fit _ _ _ _ _ _ c.requires.sound.0 c.links_of-links.ensures c.requires.sound.1 c.row_at-at.ensures.0 _ _ _ c.requires.run_at; row_fits = (row_lent _ _ c.args.row.now _ c.links_of-links.ensures c.requires.row_fits.0, c.requires.row_fits.1) }
+step-requires c =
+    record {
+      rows_fit = rows_fit _ _ _ _ _ _ c.requires.sound.0 c.links_of-links.ensures c.requires.sound.1 c.row_at-at.ensures.0 _ _ _ c.requires.run_at;
+      row_fits = (row_lent _ _ c.args.row.now _ c.links_of-links.ensures c.requires.row_fits.0, c.requires.row_fits.1);
+    }
 
 pub shape_of-state : goal.shape_of-state
 shape_of-state c = search all

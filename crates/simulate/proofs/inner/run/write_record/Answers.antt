@@ -12,7 +12,8 @@ pub steps_of-steps-requires : goal.steps_of-steps-requires
 steps_of-steps-requires c = search all
 
 pub record_width-width-requires : goal.record_width-width-requires
-record_width-width-requires c = (omega (arith, c.links_of-links.ensures, c.requires.sound.corridor_fits.few), omega (arith, c.steps_of-steps.ensures, c.requires.sound.steps))
+record_width-width-requires c =
+    (omega (arith, c.links_of-links.ensures, c.requires.sound.corridor_fits.few), omega (arith, c.steps_of-steps.ensures, c.requires.sound.steps))
 
 pub overflow_sub-end : goal.overflow_sub-end
 overflow_sub-end c = search all
@@ -24,7 +25,13 @@ pub slice_bounds-run_all-end-2 : goal.slice_bounds-run_all-end-2
 slice_bounds-run_all-end-2 c = simp length-take (omega arith)
 
 pub run_all-total-requires : goal.run_all-total-requires
-run_all-total-requires c = let fits = record_room _ _ c.args.output.now _ _ _ c.links_of-links.ensures c.steps_of-steps.ensures c.record_width-width.ensures.0 c.requires.output_len in record { sound = (c.requires.sound, c.record_width-width.ensures.1); states_len = simp length-take (omega (arith, fits)) }
+run_all-total-requires c =
+    let fits = record_room _ _ c.args.output.now _ _ _ c.links_of-links.ensures c.steps_of-steps.ensures c.record_width-width.ensures.0
+    c.requires.output_len in
+    record {
+      sound = (c.requires.sound, c.record_width-width.ensures.1);
+      states_len = simp length-take (omega (arith, fits));
+    }
 
 pub overflow_cast-output : goal.overflow_cast-output
 overflow_cast-output c = search all
@@ -51,4 +58,6 @@ pub shape_of-output : goal.shape_of-output
 shape_of-output c = search all
 
 pub returns : goal.returns
-returns c = record_is_written _ _ c.args.output.now _ _ _ c.links_of-links.ensures c.steps_of-steps.ensures c.record_width-width.ensures.0 c.requires.output_len _ _ _ c.run_all-total.ensures
+returns c =
+    record_is_written _ _ c.args.output.now _ _ _ c.links_of-links.ensures c.steps_of-steps.ensures c.record_width-width.ensures.0
+    c.requires.output_len _ _ _ c.run_all-total.ensures
