@@ -13,7 +13,7 @@ read_edit() {
         # The text of the file that the edit names, with the pairs before applied; loaded once.
         function named(path,    line, got) {
             if (path in text) return 1
-            if (path !~ /^(src|specs|proofs)\// || ("/" path "/") ~ /\/\.\.\//) return 0
+            if (path !~ /^(src|specs|proofs)\// || ("/" path "/") ~ /\/(\.\.?)?\//) return 0
             text[path] = ""
             while ((got = (getline line < (crate "/" path))) > 0) text[path] = text[path] line "\n"
             if (got < 0) delete text[path]
@@ -56,10 +56,10 @@ read_edit() {
     ' "$2"
 }
 
-edits=$(find crates -path 'crates/*/must-fail/*' -type f -name '[!.]*.edit' | sort)
+edits=$(find crates -path 'crates/*/must-fail/*' -type f -name '[A-Za-z0-9_-]*.edit' | sort)
 faults=$(
     for edit in $edits; do read_edit "${edit%/must-fail/*}" "$edit"; done
-    find crates -path '*/must-fail/*' -regextype posix-extended ! -regex 'crates/[^/]+/must-fail/[^/.][^/]*\.edit' \
+    find crates -path '*/must-fail/*' -regextype posix-extended ! -regex 'crates/[^/]+/must-fail/[A-Za-z0-9_-][A-Za-z0-9_.-]*\.edit' \
         -printf '%p: the toolchain passes over this file\n'
 )
 [ -n "$edits" ] || faults+="${faults:+$'\n'}crates: there is no must-fail edit"

@@ -54,10 +54,12 @@ refused 1 'no pair of old and new' '# nothing'
 refused 4 'no pair of old and new' "$file" 'old:     1' 'new:     0' "$file"
 refused 1 'there is no src/other.rt under src/, specs/ or proofs/' 'file: src/other.rt' 'old:     1' 'new:     0'
 refused 1 'there is no src/../../x under src/, specs/ or proofs/' 'file: src/../../x' 'old:     1' 'new:     0'
+refused 1 'there is no src//lib.rt under src/, specs/ or proofs/' 'file: src//lib.rt' 'old:     1' 'new:     0'
 refused 3 'old is not in src/lib.rt' "$file" 'old:     7' 'new:     0'
 refused 3 'old is in src/lib.rt more than once' "$file" 'old: -> u32 {' 'new: -> u64 {'
 refused 3 'old and new are the same' "$file" 'old:     1' 'new:     1'
 none='crates: there is no must-fail edit'
 expect "$none"$'\nstatus 1' "$(outcome ../no.edit '# nothing')"
 expect 'crates/sample/must-fail/a.edits: the toolchain passes over this file'$'\n'"$none"$'\nstatus 1' "$(outcome a.edits "$file")"
+expect 'crates/sample/must-fail/one(1).edit: the toolchain passes over this file'$'\nstatus 1' "$(outcome 'one(1).edit' "$file" 'old:     1' 'new:     0')"
 echo "faulty must-fail edits are refused"

@@ -2,9 +2,9 @@
 # Public calls ask nothing of their caller: no `requires` stands outside modules named `inner`.
 set -euo pipefail
 cd "$(dirname "$0")/.."
-files=$(find crates -path '*/src/*' -name '*.rt' -not -path '*/src/inner/*' -not -name inner.rt)
+files=$(find crates/*/src -name '*.rt' -not -path '*/src/inner/*' -not -name inner.rt)
 [ -n "$files" ] || { echo "there is no code"; exit 1; }
-if grep -n '^ *requires ' $files; then
+if grep -nE '^ *requires\b' $files; then
     echo "a public call asks something of its caller"
     exit 1
 fi

@@ -5,7 +5,7 @@ set -euo pipefail
 cd "$(dirname "$0")/../.."
 . .ci/variables.sh
 bash .ci/tools.sh
-rt staticlib host
+bash tools/build.sh host
 work=$(mktemp -d)
 trap 'rm -rf "$work"' EXIT
 library=target/staticlib/libhost.a

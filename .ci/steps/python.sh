@@ -8,7 +8,7 @@ cd "$(dirname "$0")/../.."
 unset PYTHONPATH PYTHONHOME PYTEST_ADDOPTS PYTEST_PLUGINS
 export PYTHONDONTWRITEBYTECODE=1
 bash .ci/tools.sh
-rt staticlib host
+bash tools/build.sh host
 bash tools/package/deb.sh
 (cd python && /usr/bin/python3 -m mypy --cache-dir=/dev/null)
 /usr/bin/python3 -m pytest -q -p no:cacheprovider python/tests

@@ -3,7 +3,7 @@
 set -euo pipefail
 cd "$(dirname "$0")/../.."
 . .ci/variables.sh
-rt staticlib host
-rt check normal
+bash tools/build.sh host
+bash tools/build.sh normal
 cd tests
 cargo test --release --offline --quiet --features files,nodes,program

@@ -19,12 +19,14 @@ documents=$stage/usr/share/doc/gigorchid
 manuals=$stage/usr/share/man/man1
 
 bash $sources/library.sh
-version=$(readlink target/lib/libgigorchid.so.0)
+version=$(basename target/lib/libgigorchid.so.*.*)
 version=${version#libgigorchid.so.}
 head -n 1 $sources/debian/changelog | grep -qF "gigorchid ($version) " || { echo "the changelog does not begin with $version"; exit 1; }
 
 mkdir -p "$libraries/pkgconfig" "$modules" "$documents/examples" "$manuals" "$stage/usr/bin" "$stage/usr/include" "$stage/DEBIAN"
-cp --no-dereference target/lib/libgigorchid.* "$libraries"
+cp target/lib/libgigorchid.a target/lib/libgigorchid.so."$version" "$libraries"
+ln -s libgigorchid.so."$version" "$libraries/libgigorchid.so.0"
+ln -s libgigorchid.so.0 "$libraries/libgigorchid.so"
 sed "s/@VERSION@/$version/" $sources/gigorchid.pc > "$libraries/pkgconfig/gigorchid.pc"
 cp include/gigorchid.h "$stage/usr/include"
 cp $sources/gigorchid "$stage/usr/bin"

@@ -1,6 +1,6 @@
 #!/usr/bin/env bash
-# Makes of the proved archive, which `rt staticlib host` writes, the shared library target/lib/libgigorchid.so.X.Y.Z with its links, and
-# copies the archive beside it. Fails where the library exports anything but the functions of the header.
+# Makes of the proved archive, which tools/build.sh writes, the shared library target/lib/libgigorchid.so.X.Y.Z, under its two other names
+# too, and copies the archive beside it. Fails where the library exports anything but the functions of the header.
 set -euo pipefail
 cd "$(dirname "$0")/../.."
 umask 022
@@ -9,7 +9,7 @@ archive=target/staticlib/libhost.a
 folder=target/lib
 soname=libgigorchid.so.0
 
-[ -f $archive ] || rt staticlib host
+[ -f $archive ] || bash tools/build.sh host
 version=$(sed -n 's/^#define GIGORCHID_VERSION_TEXT "\(.*\)"$/\1/p' $header)
 functions=$(sed -n 's/^uint32_t \(gigorchid_[a-z_]*\)(.*/\1/p' $header | LC_ALL=C sort)
 if [ -z "$version" ] || [ -z "$functions" ]; then
@@ -28,10 +28,11 @@ if ! diff <(echo "$functions") <(nm --dynamic --defined-only --format=just-symbo
     exit 1
 fi
 
-# Renamed into place: a program that has the library open keeps the file it opened.
+# Renamed into place: a program that has the library open keeps the file it opened. The other names are of the same file and no symbolic
+# links: `rt ci` refuses a checkout that has one.
 cp $archive "$work/archive"
-ln -s libgigorchid.so."$version" "$work/major"
-ln -s $soname "$work/plain"
+ln "$work/library" "$work/major"
+ln "$work/library" "$work/plain"
 mv -T "$work/library" $folder/libgigorchid.so."$version"
 mv -T "$work/archive" $folder/libgigorchid.a
 mv -T "$work/major" $folder/$soname
