@@ -1,6 +1,6 @@
 /* Gigorchid: simulator, checker, converter, rate search and normal form of freeway metering plans, for C (C99 on) and C++ (C++11 on).
  *
- * Link with libhost.a, which `rt staticlib host` makes of the Gigorchid sources (cc host.c libhost.a), or with the library of the Debian
+ * Link with libhost.a, which tools/build.sh makes of the Gigorchid sources (cc host.c libhost.a), or with the library of the Debian
  * package, shared or static, which is the same code (cc host.c $(pkg-config --cflags --libs gigorchid)). Of the C library it needs memcpy and
  * memset. It is built for x86-64 Linux. This header says all that a caller must know; docs/MODEL.md of the sources says it at length.
  *
