@@ -102,7 +102,7 @@ pub fn single_spaced(text: &str) -> String {
     text.split_whitespace().collect::<Vec<_>>().join(" ")
 }
 
-/// All text of the files below a folder, with their names; what was built is passed over.
+/// All text of the files below a folder, with their names; what was built or proved is passed over.
 pub fn all_text(folder: &str) -> String {
     let mut text = String::new();
     let mut folders = vec![top().join(folder)];
@@ -111,7 +111,7 @@ pub fn all_text(folder: &str) -> String {
             let path = entry.expect("it can be read").path();
             let name = path.file_name().expect("it has one").to_string_lossy().into_owned();
             if path.is_dir() {
-                if name != "target" && name != "__pycache__" {
+                if name != "target" && name != "out" && name != "__pycache__" {
                     folders.push(path);
                 }
                 continue;
