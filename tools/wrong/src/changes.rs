@@ -191,7 +191,7 @@ pub mod tests {
 
     fn crate_of(file: &str, text: &str) -> Crate {
         let files = vec![(file.to_string(), text.to_string())];
-        Crate { name: "sample".to_string(), needs: Vec::new(), files }
+        Crate { name: "sample".to_string(), is_static: false, needs: Vec::new(), files }
     }
 
     /// The changed lines of one kind in a file of code.

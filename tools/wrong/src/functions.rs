@@ -64,8 +64,8 @@ mod tests {
     const SAMPLE: &str = "
 // The word at 3.
 pub fn put<'a>(file: &'a mut [u8; 4], j: usize, k: usize) -> [u8; 4]
-    requires { ⌜ j * 4 + 4 ≤ length (now file) ⌝ }
-    ensures written { λ _. ⌜ f {n = 1} 2 ⌝ }
+    requires in_file { j * 4 + 4 ≤ length file.old }
+    ensures written { f {n = 1} 2 }
 {
     j + k
 }
@@ -82,7 +82,9 @@ fn main() { put(a, 1, 2); }
         assert_eq!(found[0].parameters, ["& 'a mut [ u8 ; 4 ]", "usize", "usize"]);
         let required = &found[0].requires[..];
         assert_eq!(required.len(), 1);
-        assert!(code.between(required[0].start, required[0].end).starts_with("requires { ⌜ j * 4"));
+        assert!(code
+            .between(required[0].start, required[0].end)
+            .starts_with("requires in_file { j * 4"));
         assert_eq!(code.between(found[0].body.start, found[0].body.end), "j + k");
         assert_eq!(code.between(found[1].body.start, found[1].body.end), "put(a, 1, 2);");
     }

@@ -15,7 +15,7 @@ use changes::{changes_of, Change};
 use code::Code;
 use options::{Options, HELP};
 use report::Report;
-use repository::{module_of, Crate, Repository};
+use repository::{module_of, Repository};
 use std::env;
 use std::process::ExitCode;
 
@@ -58,10 +58,9 @@ fn run(options: &Options) -> Result<(), String> {
             tries::judge_again(&repo, made, changes, &mut report);
         }
     } else {
-        let made: Vec<&Crate> = chosen.iter().map(|entry| entry.0).collect();
-        tries::prove_needs(&repo, &made, options.jobs)?;
+        let kit = tries::kit()?;
         for (made, changes) in &chosen {
-            tries::try_all(&repo, made, changes, options, &mut report)?;
+            tries::try_all(&repo, made, changes, options, &kit, &mut report)?;
         }
     }
     report.finish();

@@ -6,6 +6,8 @@ use std::path::{Path, PathBuf};
 
 pub struct Crate {
     pub name: String,
+    /// Whether it is a static library, as crates.txt says.
+    pub is_static: bool,
     /// The crates and libraries that it stands on.
     pub needs: Vec<String>,
     /// The files of src/ and specs/ by their path within the crate's folder, with their text.
@@ -24,10 +26,10 @@ impl Repository {
         let root = root.ok_or("no crates.txt in this folder or above it")?.to_path_buf();
         let list = fs::read_to_string(root.join("crates.txt")).map_err(|e| e.to_string())?;
         let mut crates = Vec::new();
-        for (name, needs) in listed(&list) {
+        for (name, is_static, needs) in listed(&list) {
             let files = files_of(&root.join("crates").join(&name));
             let files = files.map_err(|e| format!("crate {name}: {e}"))?;
-            crates.push(Crate { name, needs, files });
+            crates.push(Crate { name, is_static, needs, files });
         }
         Ok(Repository { root, crates })
     }
@@ -37,18 +39,27 @@ impl Repository {
         found.ok_or_else(|| format!("crates.txt does not list {name}"))
     }
 
+    pub fn folder(&self, name: &str) -> PathBuf {
+        self.root.join("crates").join(name)
+    }
+
     /// What a crate stands on: crates of the repository, and libraries of the toolchain.
     pub fn needs(&self, made: &Crate) -> (Vec<String>, Vec<String>) {
         made.needs.iter().cloned().partition(|need| self.named(need).is_ok())
     }
 }
 
-/// The lines `NAME: NEED NEED` of crates.txt.
-fn listed(list: &str) -> Vec<(String, Vec<String>)> {
+/// The lines `NAME: NEED NEED` and `NAME staticlib: NEED NEED` of crates.txt.
+fn listed(list: &str) -> Vec<(String, bool, Vec<String>)> {
     let lines = list.lines().map(|line| line.split('#').next().unwrap_or_default());
     let pairs = lines.filter_map(|line| line.split_once(':'));
-    let split = |needs: &str| needs.split_whitespace().map(str::to_string).collect();
-    pairs.map(|(name, needs)| (name.trim().to_string(), split(needs))).collect()
+    let split = |words: &str| words.split_whitespace().map(str::to_string).collect::<Vec<_>>();
+    let read = |(head, needs)| {
+        let (words, needs) = (split(head), split(needs));
+        let is_static = words[1..].iter().any(|word| word == "staticlib");
+        (words[0].clone(), is_static, needs)
+    };
+    pairs.filter(|(head, _)| !head.trim().is_empty()).map(read).collect()
 }
 
 fn files_of(folder: &Path) -> io::Result<Vec<(String, String)>> {
@@ -97,9 +108,11 @@ mod tests {
 
     #[test]
     fn crates_and_modules_are_named() {
-        let list = listed("# all\ntables:\nroad: tables io # two\n");
-        assert_eq!(list[1], ("road".to_string(), vec!["tables".to_string(), "io".to_string()]));
-        assert_eq!((list.len(), list[0].1.len()), (2, 0));
+        let list = listed("# all\ntables:\nroad: tables io # two\nhost staticlib: road\n");
+        let needs = vec!["tables".to_string(), "io".to_string()];
+        assert_eq!(list[1], ("road".to_string(), false, needs));
+        assert_eq!(list[2], ("host".to_string(), true, vec!["road".to_string()]));
+        assert_eq!((list.len(), list[0].2.len()), (3, 0));
         assert_eq!(module_of("lists", "src/inner/words.rt"), "lists::inner::words");
         assert_eq!(module_of("lists", "src/lib.rt"), "lists");
     }

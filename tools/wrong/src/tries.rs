@@ -15,21 +15,24 @@ use std::sync::atomic::{AtomicUsize, Ordering};
 use std::sync::mpsc::{channel, Sender};
 use std::thread;
 
-/// Has `rt check` prove what the crates stand on, where it is not proved yet.
-pub fn prove_needs(repo: &Repository, crates: &[&Crate], jobs: usize) -> Result<(), String> {
-    let mut needs: Vec<String> = crates.iter().flat_map(|made| repo.needs(made).0).collect();
-    needs.sort();
-    needs.dedup();
-    if needs.is_empty() {
-        return Ok(());
-    }
+/// The toolchain's folder, in which `rt doc` names a page.
+pub fn kit() -> Result<PathBuf, String> {
+    let done = Command::new("rt").arg("doc").output().map_err(|e| format!("rt: {e}"))?;
+    let page = String::from_utf8_lossy(&done.stdout);
+    let folder = Path::new(page.trim()).parent().map(Path::to_path_buf);
+    folder.filter(|_| done.status.success()).ok_or("rt doc names no page".to_string())
+}
+
+/// Has `rt check` prove the crate as it stands and build what it stands on, over what earlier checks left.
+fn prove(repo: &Repository, made: &Crate, jobs: usize) -> Result<(), String> {
     let mut command = Command::new("rt");
-    command.arg("check").args(&needs).current_dir(&repo.root).env("RT_JOBS", jobs.to_string());
+    command.args(["check", "--jobs", &jobs.to_string()]).current_dir(repo.folder(&made.name));
     let done = command.output().map_err(|e| format!("rt: {e}"))?;
     if done.status.success() {
         return Ok(());
     }
-    Err(format!("what the crates stand on is not proved: rt check {}", needs.join(" ")))
+    let said = String::from_utf8_lossy(&done.stdout);
+    Err(format!("crate {} is not proved as it stands:\n{said}", made.name))
 }
 
 pub fn try_all(
@@ -37,14 +40,16 @@ pub fn try_all(
     made: &Crate,
     changes: &[Change],
     options: &Options,
+    kit: &Path,
     report: &mut Report,
 ) -> Result<(), String> {
     if changes.is_empty() {
         return Ok(());
     }
+    prove(repo, made, options.jobs)?;
     let said = said_folder(repo, made);
     fs::create_dir_all(&said).map_err(|e| e.to_string())?;
-    let rooms = rooms(repo, made, options)?;
+    let rooms = rooms(repo, made, kit, options)?;
     let next = AtomicUsize::new(0);
     let (done, results) = channel();
     thread::scope(|scope| {
@@ -84,8 +89,13 @@ pub fn judge_again(repo: &Repository, made: &Crate, changes: &[Change], report: 
 }
 
 /// One room for each job. The unchanged crate is checked in the first, and must be proved.
-fn rooms(repo: &Repository, made: &Crate, options: &Options) -> Result<Vec<Room>, String> {
-    let build = |job| Room::new(repo, made, job, options.limit);
+fn rooms(
+    repo: &Repository,
+    made: &Crate,
+    kit: &Path,
+    options: &Options,
+) -> Result<Vec<Room>, String> {
+    let build = |job| Room::new(repo, made, kit, job, options.limit);
     let rooms: Vec<Room> =
         (1..=options.jobs).map(build).collect::<io::Result<_>>().map_err(|e| e.to_string())?;
     let base = rooms[0].check_base().map_err(|e| format!("rt: {e}"))?;

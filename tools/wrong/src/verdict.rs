@@ -28,8 +28,8 @@ impl fmt::Display for Verdict {
 /// Words of errors that say that a fact was looked for and not found.
 const FACT: [&str; 13] = [
     "`search`: no proof of",
-    // the same in a function that has no proof file
-    "`search` does not close",
+    // the same at a goal that no file answers
+    "`search` did not prove",
     "`omega`: ",
     "`omega` stopped at a bound of its own",
     "`omega` found no proof",
@@ -53,7 +53,7 @@ const SHAPE: [&str; 7] = [
     "error[",
     // the proof names a branch, a call or a loop of the code that is not there
     "has no field",
-    // the proof answers a need that the code no longer has
+    // the proof answers a goal that the code no longer has
     "that can be named from here",
     // the proof gives or takes several facts where the contract now has one
     "which is not a `×` type",
@@ -79,7 +79,7 @@ pub fn judge(outcome: &Outcome) -> (Verdict, String) {
     }
 }
 
-/// The first error decides, unless another of the same file is one of shape: where a need is gone, the needs after it have the names of
+/// The first error decides, unless another of the same file is one of shape: where a goal is gone, the goals after it have the names of
 /// others, and a proof looks for the wrong facts.
 fn of_errors(mut errors: Vec<String>) -> (Verdict, String) {
     let own = file_of(&errors[0]).to_string();
@@ -107,14 +107,15 @@ fn of_error(error: &str) -> Verdict {
 }
 
 /// Where a proof has one type and another is asked for: mostly two equations or inequalities, one of which is of no use for the other.
-/// It is the shape where one type is a need or a place in the code, or where one is the denial of what the other says: a proof then
-/// answers another need, or takes a branch for the other one.
+/// It is the shape where one type is a goal or a place in the code, or where one is the denial of what the other says: a proof then
+/// answers another goal, or takes a branch for the other one.
 fn of_types(error: &str) -> Option<Verdict> {
     let expected = quoted_after(error, "expected type `")?;
     let found = quoted_after(error, "but this has type `")?;
     let of_code = |kind: &str| {
         let head = kind.split(' ').next().unwrap_or_default();
-        head.starts_with("tie.") || head.contains(".Tie.") || head.contains(".Lts.")
+        head.starts_with("goal.")
+            || [".Goals.", ".Given.", ".Lts."].iter().any(|it| head.contains(it))
     };
     let denies = |kind: &str| kind.ends_with("→ Prim.⊥");
     let shape = of_code(expected) || of_code(found) || denies(expected) != denies(found);
@@ -176,19 +177,19 @@ mod tests {
     #[test]
     fn a_fact_that_is_not_found_is_a_fact() {
         for error in [
-            "proofs/inner/sending/Proof.antt:9:105: error: `sending-spec`: `search`: no proof of `Reads.Post (Prim.tt {0})`\n  was found.",
-            "proofs/inner/merge/Proof.antt:21:81: error: `returns-2`: `omega`: the goal does not follow from what it read.",
-            "proofs/inner/place/put_run/Proof.antt:19:5: error: `put-word-requires`: `omega` stopped at a bound of its own: eliminating one atom",
-            "proofs/inner/calls/told_fits/Proof.antt:9:13: error: `returns`: `rw`: no occurrence of the path's right endpoint in the goal",
-            "proofs/inner/put_exit/Proof.antt:10:13: error: `returns`: `simp`: no equation of the list has an instance in the goal `Reads.Post`",
-            "proofs/inner/gives/Proof.antt:10:13: error: `returns`: give a proof of that as the last argument, `simp L t`\n  `simp` has no last argument, so what it leaves must be a path whose two ends are equal",
-            "proofs/inner/kinds/own_agrees/Proof.antt:9:13: error: `returns`: give a proof of that as the last argument, `rw L t`\n  `rw` has no last argument, so what it leaves must be a path whose two ends are equal",
-            "proofs/inner/kinds/list_kind/Proof.antt:13:61: error: `returns-2`: list the missing equation with its arguments\n  `cc` met a bound of its own before the equations had joined `r` and `s`",
-            "proofs/inner/unpacked/downstream/Proof.antt:13:5: error: `word-of-requires`: `omega` found no proof, and no values at which the goal fails",
-            "proofs/Rates.antt:40:54: error: `reaches-facts`: `reaches junction` ≟ `leb a b && leb c d`\n  does not hold (this comparison, made at this position, had to wait",
-            "proofs/sized/Proof.antt:7:63: error: `sized-spec`: computed as far as they go, the two values are `c .refusal .result` (found) and `Answer.refusal (unless fits 1) 0 0`",
-            "proofs/inner/words/link_at/Proof.antt:17:10: error: `returns`: as printed, the two values first differ where one has `record` (found), at the start",
-            "fn lists::inner::words::node_word: no proof: expected `node-word-spec` in ./proofs/inner/words/node_word/Proof.antt; `search` does not close `returns`",
+            "./proofs/inner/sending/Answers.antt:9:105: error: `returns`: `search`: no proof of `mathlib.Core.Path.◌≡◌ 3 (unless fits 2)`\n  was found.",
+            "./proofs/inner/merge/Answers.antt:21:81: error: `returns-2`: `omega`: the goal does not follow from what it read.",
+            "./proofs/inner/place/put_run/Answers.antt:19:5: error: `put_word-requires`: `omega` stopped at a bound of its own: eliminating one atom",
+            "./proofs/inner/calls/told_fits/Answers.antt:9:13: error: `returns`: `rw`: no occurrence of the path's right endpoint in the goal",
+            "./proofs/inner/put_exit/Answers.antt:10:13: error: `returns`: `simp`: no equation of the list has an instance in the goal `result ≡ 0`",
+            "./proofs/inner/gives/Answers.antt:10:13: error: `returns`: give a proof of that as the last argument, `simp L t`\n  `simp` has no last argument, so what it leaves must be a path whose two ends are equal",
+            "./proofs/inner/kinds/own_agrees/Answers.antt:9:13: error: `returns`: give a proof of that as the last argument, `rw L t`\n  `rw` has no last argument, so what it leaves must be a path whose two ends are equal",
+            "./proofs/inner/kinds/list_kind/Answers.antt:13:61: error: `returns-2`: list the missing equation with its arguments\n  `cc` met a bound of its own before the equations had joined `r` and `s`",
+            "./proofs/inner/unpacked/downstream/Answers.antt:13:5: error: `word_of-requires`: `omega` found no proof, and no values at which the goal fails",
+            "./proofs/Rates.antt:40:54: error: `reaches_facts`: `reaches junction` ≟ `leb a b && leb c d`\n  does not hold (this comparison, made at this position, had to wait",
+            "./proofs/sized/Answers.antt:7:63: error: `returns`: computed as far as they go, the two values are `c .refusal .result` (found) and `Answer.refusal (unless fits 1) 0 0`",
+            "./proofs/inner/words/link_at/Answers.antt:17:10: error: `returns`: as printed, the two values first differ where one has `record` (found), at the start",
+            "fn lists::inner::words::node_word: no proof: expected answers in ./proofs/inner/words/node_word/Answers.antt; `search` did not prove `returns`",
         ] {
             assert_eq!(judged(1, &format!("fn a: proved\n{error}\nlogic=not-proved\n")).0, Verdict::Fact, "{error}");
         }
@@ -198,11 +199,11 @@ mod tests {
     fn code_and_proof_that_do_not_fit_are_the_shape() {
         for error in [
             "src/inner.rt:72:24: error[mismatched-types]: expected `Flows`, found `Units`",
-            "proofs/inner/held_limit/Proof.antt:17:115: error: `returns`: record `held_limit.Lts.After-struct-known2`\n  has no field `if1`",
-            "proofs/inner/share/Proof.antt:15:96: error: `share-spec`: a tuple is checked against `Reads.Post`\n  which is not a `×` type",
-            "proofs/inner/unpacked/downstream/Proof.antt:13:19: error: `word-of-requires`: replace that `_` with the term it stands for\n  this entry's type is not yet determined",
-            "fn trial::say::put: no proof: expected `put-spec` in proofs/say/put/Proof.antt; the borrow checker does not cover this function yet",
-            "proofs/inner/held_limit/Proof.antt:20:12: error: `cast-t10`: `tie.Need-cast-t10`: module `held_limit.Tie` has no `Need-cast-t10` that can be named from here",
+            "./proofs/inner/held_limit/Answers.antt:17:115: error: `returns`: record `Rattle.settings.proofs.inner.held_limit.Lts.Else1`\n  has no field `if-flow-eq0` (nearest: .if-flow-eq1)",
+            "./proofs/inner/share/Answers.antt:15:96: error: `returns`: a tuple is checked against `result ≡ 0`\n  which is not a `×` type",
+            "./proofs/inner/unpacked/downstream/Answers.antt:13:19: error: `word_of-requires`: replace that `_` with the term it stands for\n  this entry's type is not yet determined",
+            "fn trial::say::put: no proof: expected `put_spec` in ./proofs/say/put/Proof.antt; the borrow checker does not cover this function yet",
+            "./proofs/inner/held_limit/Answers.antt:20:12: error: `cast-most`: `goal.cast-most`: module `Rattle.settings.proofs.inner.held_limit.Goals` has no `cast-most` that can be named from here",
         ] {
             assert_eq!(judged(1, error).0, Verdict::Shape, "{error}");
         }
@@ -215,7 +216,7 @@ mod tests {
             judged(
                 1,
                 &format!(
-                    "proofs/Tests.antt:32:33: error: `within-holds`: the two types differ\n{types}"
+                    "./proofs/Tests.antt:32:33: error: `within_holds`: the two types differ\n{types}"
                 ),
             )
             .0
@@ -224,27 +225,28 @@ mod tests {
             judged("leb low x && leb x high ≡ true", "within low high x ≡ true"),
             Verdict::Fact
         );
-        assert_eq!(judged("_≡_ {A = ℕ} (?10 c) (?11 c)", "x ≡ 0 → Prim.⊥"), Verdict::Shape);
-        assert_eq!(judged("tie.Need-returns-2", "x ≡ 0"), Verdict::Shape);
-        assert_eq!(judged("fresh.Lts.After-if1 c", "fresh.Lts.Start c"), Verdict::Shape);
+        assert_eq!(judged("◌≡◌ {A = ℕ} (?10 c) (?11 c)", "x ≡ 0 → Prim.⊥"), Verdict::Shape);
+        assert_eq!(judged("goal.returns-2", "x ≡ 0"), Verdict::Shape);
+        assert_eq!(judged("fresh.Lts.Else1 c", "fresh.Lts.Start c"), Verdict::Shape);
     }
 
     #[test]
     fn what_follows_from_another_error_is_passed_over() {
-        let follows = "proofs/f/Proof.antt:12:19: error: `f-spec`: `close` was not admitted (it has holes), so this cannot be checked";
-        let cause = "proofs/g/Proof.antt:9:1: error: `g-spec`: `omega`: the goal does not follow\n    from what it read";
+        let follows = "./proofs/f/Answers.antt:12:19: error: `returns`: `close` was not admitted (it has holes), so this cannot be checked";
+        let cause = "./proofs/g/Answers.antt:9:1: error: `returns`: `omega`: the goal does not follow\n    from what it read";
         let (verdict, error) = judged(1, &format!("{follows}\n{cause}\n"));
         assert_eq!(verdict, Verdict::Fact);
         assert!(
-            error.starts_with("proofs/g/Proof.antt") && error.ends_with("follow from what it read")
+            error.starts_with("./proofs/g/Answers.antt")
+                && error.ends_with("follow from what it read")
         );
         assert_eq!(judged(1, follows).0, Verdict::Unclear);
     }
 
     #[test]
     fn a_caller_of_what_is_not_proved_is_passed_over() {
-        let cause = "fn normal::inner::input::refused: no proof: expected `refused-spec` in proofs/inner/input/refused/Proof.antt; `search` does not close `returns`";
-        let caller = "fn normal::main: no proof: expected `main-spec` in proofs/main/Proof.antt; it calls `normal::inner::print`, which is not proved";
+        let cause = "fn normal::inner::input::refused: no proof: expected answers in ./proofs/inner/input/refused/Answers.antt; `search` did not prove `returns`";
+        let caller = "fn normal::main: no proof: expected answers in ./proofs/main/Answers.antt; it calls `normal::inner::print`, which is not proved";
         let (verdict, error) = judged(1, &format!("{caller}\n{cause}\n"));
         assert_eq!((verdict, error.as_str()), (Verdict::Fact, cause));
     }
@@ -252,13 +254,16 @@ mod tests {
     #[test]
     fn a_need_that_is_gone_from_the_same_file_is_the_shape() {
         let fact =
-            "proofs/f/Proof.antt:14:15: error: `returns-3`: `search`: no proof of `Reads.Post`";
+            "./proofs/f/Answers.antt:14:15: error: `returns-3`: `search`: no proof of `result ≡ 0`";
         let gone = |file: &str| {
-            format!("{file}:16:13: error: `returns-4`: module `f.Tie`\n  has no `Need-returns-4` that can be named from here")
+            format!("{file}:16:13: error: `returns-4`: `goal.returns-4`: module `Rattle.f.proofs.f.Goals`\n  has no `returns-4` that can be named from here")
         };
-        let (verdict, error) = judged(1, &format!("{fact}\n{}", gone("proofs/f/Proof.antt")));
+        let (verdict, error) = judged(1, &format!("{fact}\n{}", gone("./proofs/f/Answers.antt")));
         assert_eq!(verdict, Verdict::Shape);
-        assert!(error.contains("Need-returns-4"));
-        assert_eq!(judged(1, &format!("{fact}\n{}", gone("proofs/g/Proof.antt"))).0, Verdict::Fact);
+        assert!(error.contains("goal.returns-4"));
+        assert_eq!(
+            judged(1, &format!("{fact}\n{}", gone("./proofs/g/Answers.antt"))).0,
+            Verdict::Fact
+        );
     }
 }

@@ -32,7 +32,7 @@ mod tests {
     use crate::changes::Kind;
 
     const SAMPLE: &str =
-        "fn f(x: u32) -> bool\n    requires { ⌜ 0 < x ⌝ }\n{\n    g(x) -> a < b << 2 == c\n}";
+        "fn f(x: u32) -> bool\n    requires { 0 < x }\n{\n    g(x) -> a < b << 2 == c\n}";
 
     #[test]
     fn each_comparison_is_exchanged() {

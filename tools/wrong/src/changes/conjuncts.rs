@@ -6,7 +6,7 @@ use crate::code::Code;
 use std::ops::Range;
 
 /// What a last operand ends at, besides the bracket around it: what binds less than `&&`.
-const OPERAND_ENDS: [&str; 12] = ["&&", "||", ";", ",", "{", "=", "→", "≡", "×", "⊎", "↔", "⌝"];
+const OPERAND_ENDS: [&str; 11] = ["&&", "||", ";", ",", "{", "=", "→", "≡", "×", "⊎", "↔"];
 
 pub fn body_edits(code: &Code, body: &Range<usize>) -> Vec<Edit> {
     let mut edits = chain_edits(code, body);

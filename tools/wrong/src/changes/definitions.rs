@@ -48,11 +48,11 @@ mod tests {
     use crate::changes::tests::lines_changed;
 
     const SAMPLE: &str = "-- a && b
-use mathlib.Core.Bool.{Bool, _&&_}
+use Rattle.std.specs.Prelude.{Bool, ◌&&◌}
 
 unfoldable pub sizes : List ℕ → Bool
 sizes corridor =
-    within 1 64 (linksOf corridor) -- x && y
+    within 1 64 (links_of corridor) -- x && y
     && (eqb (length corridor) 3
     && implies last (eqb a 0 && eqb b 0))
 

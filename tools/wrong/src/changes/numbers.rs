@@ -42,7 +42,7 @@ mod tests {
 
     #[test]
     fn each_number_of_a_body_is_one_greater() {
-        let text = "fn f(x: u32) -> u32\n    ensures { λ r. ⌜ r ≡ x + 9 ⌝ }\n{\n    x.0 * 0x1F + 65_536u32 // 7\n}";
+        let text = "fn f(x: u32) -> u32\n    ensures { result ≡ x + 9 }\n{\n    x.0 * 0x1F + 65_536u32 // 7\n}";
         assert_eq!(
             changed(Kind::Numbers, text),
             ["x.0 * 32 + 65_536u32 // 7", "x.0 * 0x1F + 65537u32 // 7"]

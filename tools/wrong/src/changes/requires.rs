@@ -10,7 +10,7 @@ pub fn edits(code: &Code, requires: &[Range<usize>]) -> Vec<Edit> {
 
 fn last_dropped(code: &Code, clause: &Range<usize>) -> Option<Edit> {
     let open = code.pair(clause.end - 1)?;
-    let end = code.find(open + 1, clause.end, |word| word == "⌝");
+    let end = clause.end - 1;
     let mut last = None;
     let mut at = open + 1;
     while at < end {
@@ -33,7 +33,7 @@ mod tests {
 
     #[test]
     fn the_last_factor_or_the_whole_is_dropped() {
-        let text = "fn f(x: u32)\n    requires { ⌜ (a ≤ 1) × (b × c) × Fits 2 x ⌝ }\n    requires { ⌜ x < 3 ⌝ }\n    ensures { λ r. ⌜ d × e ⌝ }\n{\n}";
-        assert_eq!(changed(Kind::Requires, text), ["requires { ⌜ (a ≤ 1) × (b × c) ⌝ }", ""]);
+        let text = "fn f(x: u32)\n    requires fits { (a ≤ 1) × (b × c) × Fits 2 x }\n    requires { x < 3 }\n    ensures { d × e }\n{\n}";
+        assert_eq!(changed(Kind::Requires, text), ["requires fits { (a ≤ 1) × (b × c) }", ""]);
     }
 }
