@@ -8,6 +8,6 @@ packages=$(find . -name target -prune -o -name Cargo.toml -print | sort)
 while IFS= read -r package; do
     cargo fmt --check --manifest-path "$package"
 done <<< "$packages"
-/usr/bin/python3 -m black --quiet --check --config python/pyproject.toml python tools/scale || { echo "the Python sources are not in the layout"; exit 1; }
-/usr/bin/python3 -m pyflakes python tools/scale
-echo "the Rust packages and the Python sources are in the layout: $(tr '\n' ' ' <<< "$packages")python tools/scale"
+/usr/bin/python3 -m black --quiet --check --config python/pyproject.toml python tools/scale tools/port || { echo "the Python sources are not in the layout"; exit 1; }
+/usr/bin/python3 -m pyflakes python tools/scale tools/port
+echo "the Rust packages and the Python sources are in the layout: $(tr '\n' ' ' <<< "$packages")python tools/scale tools/port"

@@ -16,7 +16,9 @@ import subprocess
 import sys
 
 # `rt doc` prints the path of the toolchain's first page, beside which its library lies.
-LIBRARY = os.path.join(os.path.dirname(subprocess.run(["rt", "doc"], stdout=subprocess.PIPE, text=True).stdout.strip()), "rattle")
+LIBRARY = os.path.join(
+    os.path.dirname(subprocess.run(["rt", "doc"], stdout=subprocess.PIPE, text=True).stdout.strip()), "rattle"
+)
 # What ends a name in antt. A dash is part of a name.
 PART = r"[^\s(){}\[\].,;:\"`|⌜⌝=]+"
 NAME = re.compile(PART)
@@ -88,7 +90,11 @@ def main():
     words = {new for old, new in turned.items() if "-" not in old}
     turned = {old: new + "_lem" if "-" in old and new in words | bare else new for old, new in turned.items()}
     counts = collections.Counter(turned.values())
-    clash = [f"{old} and {new}" for old, new in turned.items() if (new in bare | declared and new not in ALIKE | set(APART)) or counts[new] > 1]
+    clash = [
+        f"{old} and {new}"
+        for old, new in turned.items()
+        if (new in bare | declared and new not in ALIKE | set(APART)) or counts[new] > 1
+    ]
     for it in clash:
         print(f"falls together: {it}")
     if clash and "--anyway" not in sys.argv:
