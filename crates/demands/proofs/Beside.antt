@@ -37,7 +37,7 @@ use Rattle.convert.proofs.Plans.{plan_named}
 use Rattle.convert.proofs.Normal.{simulated_fits}
 use Rattle.convert.proofs.Records.{record_costs, record_exits_kept}
 use Rattle.demands.specs.Beside.{InBounds, queue_at, queue_limit_at, FirstQueueAbove, Checking, NormalForms, OneSetting, RecordSizes, PlanSizes, Beside}
-use Rattle.demands.proofs.Demand3.{road_limits, simulate_answer_lem, convert_answer_lem, normal_answer_lem, queue_is, simulated_moves, valid_accepted, converted_length, accepted_keeps, returned_is_valid, accepted_iff_valid, normal_valid, normal_has_the_record, normal_accepted_iff}
+use Rattle.demands.proofs.Demand3Laws.{road_limits, simulate_answer_lem, convert_answer_lem, normal_answer_lem, queue_is, simulated_moves, valid_accepted, converted_length, accepted_keeps, returned_is_valid, accepted_iff_valid, normal_valid, normal_has_the_record, normal_accepted_iff}
 
 module _ (corridor demands : List ℕ) (within : limits corridor demands ≡ Accepted) where
   -- ---- simulator and checker

@@ -35,7 +35,7 @@ use Rattle.files.proofs.Turns.{second_same}
 use Rattle.demands.specs.Completed.{completed_exit, completed_record_word, completed_record}
 use Rattle.demands.specs.Exits.{Exits, EitherKind}
 use Rattle.demands.proofs.Demand2.{exit_at_lem, rest_of}
-use Rattle.demands.proofs.Demand3.{road_limits, accepted_keeps}
+use Rattle.demands.proofs.Demand3Laws.{road_limits, accepted_keeps}
 use Rattle.demands.proofs.Beside.{only_12}
 use Rattle.demands.proofs.CompletedRecord.{traces_plan, full_length, full_at, full_cost}
 

@@ -1,4 +1,5 @@
 pub mod Demand2
+pub mod Demand3Laws
 pub mod Demand3
 pub mod Beside
 pub mod Cases

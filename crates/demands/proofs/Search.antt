@@ -31,7 +31,7 @@ use Rattle.convert.specs.Convert.{check_answer}
 use Rattle.search.specs.Search.{search_at, found_word, rate_word, searched, place_answer, search_answer, search_left}
 use Rattle.demands.specs.Demand3.{recorded, recorded_flows}
 use Rattle.demands.specs.Search.{SearchCalls, SearchedAt}
-use Rattle.demands.proofs.Demand3.{road_limits, returned_settings, returned_full_speed}
+use Rattle.demands.proofs.Demand3Laws.{road_limits, returned_settings, returned_full_speed}
 
 -- ---- the refusals
 
