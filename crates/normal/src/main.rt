@@ -1,5 +1,5 @@
 // The program `normal`: reads a corridor's, the demands' and a record's file from standard input and prints the record's plan, or its refusal. Its
-// exit status is 0 in every case; where reading or writing fails it says so on standard error.
+// exit status is 0 unless a signal ends it; where reading or writing fails it says so on standard error.
 #![tactic(auto)]
 
 mod inner;
