@@ -6,11 +6,11 @@ use mathlib.Core.Path.{◌≡◌, refl, sym, ap, ◌∙◌}
 use Prim.Native.Nat.{ℕ, suc, ◌+◌, ◌*◌, ◌≤◌}
 use native.Mathlib.Nat.{mul-le-mul}
 use native.Mathlib.Omega.{arith}
-use borrow.Author.Tests.{eq-eqb, eqb-true, leb-true}
+use borrow.Author.Tests.{eq-eqb, eqb-true, le-leb, leb-true}
 use lib.Dec.{eqb, leb}
 use lib.ListN.{length, get_or}
-use Rattle.tables.specs.declared.Answer.{Answer}
-use Rattle.tables.specs.declared.Answer.TheVariants.{Accepted}
+use Rattle.tables.specs.Answer.{Answer}
+use Rattle.tables.specs.Answer.{Accepted}
 use Rattle.tables.specs.Answer.{or_else, sized}
 use Rattle.tables.proofs.Answers.{Refuses, or_else_accepts, or_else_refuses, or_else_stop, or_else_next, left_refused, left_accepted, sized_iff}
 use Rattle.tables.proofs.Tests.{and_iff}
@@ -43,6 +43,17 @@ told_is n k b e h =
 -- s is what it answered
 pub told_sized : (n k : ℕ) (b : Bool) (s : Answer) → b ≡ told_fits n k → s ≡ sized b → s ≡ Accepted → Told n k
 told_sized n k b s q x h = told_is n k b q ((sized_iff b).0 (sym x ∙ h))
+
+told_good : (n k : ℕ) → Told n k → told_fits n k ≡ true
+unfolding told_fits
+told_good n k t =
+    (and_iff (within 1 64 n) (within 1 1440 k)).1 (
+      (and_iff (leb 1 n) (leb n 64)).1 (le-leb 1 n t.links_low, le-leb n 64 t.links_high),
+      (and_iff (leb 1 k) (leb k 1440)).1 (le-leb 1 k t.steps_low, le-leb k 1440 t.steps_high),
+    )
+
+good : (n k : ℕ) → Told n k → Accepted ≡ sized (told_fits n k)
+good n k t = ap sized (sym (told_good n k t))
 
 -- one test, then another
 sized_both : (b c : Bool) (a : Answer) → or_else (sized (b && c)) a ≡ or_else (sized b) (or_else (sized c) a)
@@ -99,24 +110,24 @@ module _ (kind : Kind) (n k : ℕ) (file : List ℕ) (number m : ℕ) (a : Answe
   pub own_told : a ≡ Accepted → (w : ℕ) → w ≡ payload_word file 0 → (b : Bool) → b ≡ own_agrees kind n k w → (r : Answer) → r ≡ sized b → r ≡ file_answer kind n k file
   own_told h w e b q r s = s ∙ sym (file_rest ∙ rw (h, ← e, ← q))
 
--- b is whether N and K are good as a call told it, s what that answered, and z what the test of the room answered
-module _ (kind : Kind) (n k : ℕ) (file : List ℕ) (room : ℕ) (b : Bool) (q : b ≡ told_fits n k) (s : Answer) (x : s ≡ sized b) where
-  read_rest : read_answer kind n k file room ≡ or_else s (or_else (sized (eqb room (list_length kind n k))) (file_answer kind n k file))
+-- s is what the test of N and K answered, and z what that of the room did
+module _ (kind : Kind) (n k : ℕ) (file : List ℕ) (room : ℕ) where
+  read_rest : read_answer kind n k file room ≡ or_else (sized (told_fits n k)) (or_else (sized (eqb room (list_length kind n k))) (file_answer kind n k file))
   unfolding read_answer
-  read_rest = rw (← q, x) (sized_both b (eqb room (list_length kind n k)) (file_answer kind n k file))
+  read_rest = sized_both (told_fits n k) (eqb room (list_length kind n k)) (file_answer kind n k file)
 
-  pub read_told_wrong : Refuses s → s ≡ read_answer kind n k file room
-  read_told_wrong h = or_else_stop s s _ refl h ∙ sym read_rest
+  pub read_told_wrong : (s : Answer) → s ≡ sized (told_fits n k) → Refuses s → s ≡ read_answer kind n k file room
+  read_told_wrong s x h = or_else_stop s _ _ x h ∙ sym read_rest
 
-  module _ (h : s ≡ Accepted) (m : ℕ) (v : m ≡ list_length kind n k) (z : Answer) (y : z ≡ sized (eqb room m)) where
+  module _ (t : Told n k) (m : ℕ) (v : m ≡ list_length kind n k) (z : Answer) (y : z ≡ sized (eqb room m)) where
     sized_room : z ≡ sized (eqb room (list_length kind n k))
     sized_room = y ∙ rw v
 
     pub read_room_wrong : Refuses z → z ≡ read_answer kind n k file room
-    read_room_wrong r = or_else_next s z s _ refl h (or_else_stop z _ _ sized_room r) ∙ sym read_rest
+    read_room_wrong r = or_else_next Accepted z _ _ (good n k t) refl (or_else_stop z _ _ sized_room r) ∙ sym read_rest
 
     pub read_file : z ≡ Accepted → (a : Answer) → a ≡ file_answer kind n k file → a ≡ read_answer kind n k file room
-    read_file r a p = or_else_next s a s _ refl h (or_else_next z a _ _ sized_room r p) ∙ sym read_rest
+    read_file r a p = or_else_next Accepted a _ _ (good n k t) refl (or_else_next z a _ _ sized_room r p) ∙ sym read_rest
 
 -- what an accepted file keeps
 pub record FileKept (kind : Kind) (n k : ℕ) (file : List ℕ) : Type 0 where
@@ -176,23 +187,25 @@ module _ (kind : Kind) (n k : ℕ) (file lent : List ℕ) (a : Answer) (e : a �
 
 -- ---- writing
 
--- b, s and z as in reading, and f is whether the list fits as a call told it
-module _ (kind : Kind) (n k : ℕ) (words : List ℕ) (room : ℕ) (b : Bool) (q : b ≡ told_fits n k) (s : Answer) (x : s ≡ sized b) where
+-- s and z as in reading, and f is whether the list fits as a call told it
+module _ (kind : Kind) (n k : ℕ) (words : List ℕ) (room : ℕ) where
   write_rest : (m blocks : ℕ) → m ≡ list_length kind n k → blocks ≡ blocks_for m
-      → write_answer kind n k words room ≡ or_else s (or_else (sized (eqb room (blocks * 512))) (sized (eqb (length words) m && own_agrees kind n k (get_or words 0 0))))
+      → write_answer kind n k words room
+      ≡ or_else (sized (told_fits n k)) (or_else (sized (eqb room (blocks * 512))) (sized (eqb (length words) m && own_agrees kind n k (get_or words 0 0))))
   unfolding write_answer
-  write_rest m blocks v r = rw (← q, ← v, ← r, x) (sized_all b (eqb room (blocks * 512)) (eqb (length words) m && own_agrees kind n k (get_or words 0 0)))
+  write_rest m blocks v r = rw (← v, ← r) (sized_all (told_fits n k) (eqb room (blocks * 512)) (eqb (length words) m && own_agrees kind n k (get_or words 0 0)))
 
-  pub write_told_wrong : Refuses s → s ≡ write_answer kind n k words room
-  write_told_wrong h = or_else_stop s s _ refl h ∙ sym (write_rest _ _ refl refl)
+  pub write_told_wrong : (s : Answer) → s ≡ sized (told_fits n k) → Refuses s → s ≡ write_answer kind n k words room
+  write_told_wrong s x h = or_else_stop s _ _ x h ∙ sym (write_rest _ _ refl refl)
 
-  module _ (h : s ≡ Accepted) (m : ℕ) (v : m ≡ list_length kind n k) (blocks : ℕ) (r : blocks ≡ blocks_for m) (z : Answer) (y : z ≡ sized (eqb room (blocks * 512))) where
+  module _ (t : Told n k) (m : ℕ) (v : m ≡ list_length kind n k) (blocks : ℕ) (r : blocks ≡ blocks_for m)
+      (z : Answer) (y : z ≡ sized (eqb room (blocks * 512))) where
     pub write_room_wrong : Refuses z → z ≡ write_answer kind n k words room
-    write_room_wrong w = or_else_next s z s _ refl h (or_else_stop z _ _ y w) ∙ sym (write_rest m blocks v r)
+    write_room_wrong w = or_else_next Accepted z _ _ (good n k t) refl (or_else_stop z _ _ y w) ∙ sym (write_rest m blocks v r)
 
     pub write_told : z ≡ Accepted → (f : Bool) → f ≡ (eqb (length words) m && own_agrees kind n k (get_or words 0 0)) → (a : Answer) → a ≡ sized f
         → a ≡ write_answer kind n k words room
-    write_told w f e a p = or_else_next s a s _ refl h (or_else_next z a _ _ y w (p ∙ ap sized e)) ∙ sym (write_rest m blocks v r)
+    write_told w f e a p = or_else_next Accepted a _ _ (good n k t) refl (or_else_next z a _ _ y w (p ∙ ap sized e)) ∙ sym (write_rest m blocks v r)
 
 -- what an accepted call keeps
 pub record WriteKept (kind : Kind) (n k : ℕ) (words : List ℕ) (room : ℕ) : Type 0 where
@@ -240,7 +253,7 @@ module _ (kind : Kind) (n k : ℕ) (words lent : List ℕ) (a : Answer) (e : a �
     unfolding file_written
     write_file number v l s = left_accepted a _ _ lent l e h (s ∙ ap (λ (x : ℕ). file_of x words) v)
 
--- a bad N or K leaves the file as lent, whatever the kind: b and s as above
-pub write_told_left : (kind : Kind) (n k : ℕ) (words lent : List ℕ) (b : Bool) → b ≡ told_fits n k → (s : Answer) → s ≡ sized b → Refuses s
+-- a bad N or K leaves the file as lent, whatever the kind: s as above
+pub write_told_left : (kind : Kind) (n k : ℕ) (words lent : List ℕ) (s : Answer) → s ≡ sized (told_fits n k) → Refuses s
     → lent ≡ file_written kind n k words lent
-write_told_left kind n k words lent b q s x h = write_left kind n k words lent s (write_told_wrong kind n k words (length lent) b q s x h) h
+write_told_left kind n k words lent s x h = write_left kind n k words lent s (write_told_wrong kind n k words (length lent) s x h) h

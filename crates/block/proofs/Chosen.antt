@@ -9,8 +9,8 @@ use native.Mathlib.Omega.{arith}
 use borrow.Author.Tests.{eqb-true, eq-eqb, ne_eqb, le-leb}
 use lib.Dec.{eqb, lit<}
 use lib.ListN.{length, get_or}
-use Rattle.tables.specs.declared.Answer.{Answer}
-use Rattle.tables.specs.declared.Answer.TheVariants.{Accepted, Refused}
+use Rattle.tables.specs.Answer.{Answer}
+use Rattle.tables.specs.Answer.{Accepted, Refused}
 use Rattle.tables.specs.Answer.{left}
 use Rattle.tables.specs.Grid.{place}
 use Rattle.tables.proofs.Grid.{grid_at}
@@ -54,6 +54,19 @@ of_either P p file long short = by (says_later p file)
     by : (t : Bool) → P (cond t (later p) p)
     by true = long
     by false = short
+
+-- the place of a plan has one kind
+pub plan_file : (file : List ℕ) → file_kind Plan file ≡ Plan
+unfolding later
+plan_file file = of_either (λ (kind : Kind). kind ≡ Plan) Plan file refl refl
+
+pub plan_list : (n k count : ℕ) → list_kind Plan n k count ≡ Plan
+unfolding list_kind later
+plan_list n k count = by (eqb count (list_length Plan n k))
+  where
+    by : (t : Bool) → cond t Plan Plan ≡ Plan
+    by true = refl
+    by false = refl
 
 -- ---- a kind and the later one of its place differ in number and in length
 

@@ -1,6 +1,6 @@
 -- What a reader and a writer answer, told N and K, and what they leave of the lent list.
 use Rattle.std.specs.Prelude.{Bool, ◌&&◌, List, ℕ, ◌*◌, eqb, length, get_or}
-use Rattle.tables.specs.declared.Answer.{Answer}
+use Rattle.tables.specs.Answer.{Answer}
 use Rattle.tables.specs.Answer.{or_else, left, sized}
 use Rattle.faults.specs.Lists.{within}
 use Rattle.block.specs.declared.Kind.{Kind}

@@ -1,27 +1,28 @@
 -- Laws of the whole answers, in the shape of what the code returns, and what the refusals before a call leave for it.
-use Prim.Native.Nat.{ℕ, suc, ◌+◌, ◌-◌, ◌*◌, ◌≤◌, ◌<◌}
+use Prim.Native.Nat.{ℕ, suc, ◌+◌, ◌*◌, ◌≤◌, ◌<◌}
 use mathlib.Core.Bool.{Bool, true, false, ◌&&◌}
 use mathlib.Core.List.{List, []}
-use mathlib.Core.Path.{◌≡◌, refl, sym, ap, ap₂, subst, subst₂, ◌∙◌}
+use mathlib.Core.Path.{◌≡◌, refl, sym, ap, ap₂, subst, ◌∙◌}
+use native.Mathlib.Numerals.{add-one}
 use native.Mathlib.Omega.{arith}
-use lib.ListN.{length, get_or, take, drop}
+use lib.ListN.{length, get_or}
 use lib.Dec.{eqb}
-use Rattle.tables.specs.declared.Answer.{Answer}
-use Rattle.tables.specs.declared.Answer.TheVariants.{Accepted}
-use Rattle.tables.specs.Answer.{is_refused, or_else, refusal, sized}
-use Rattle.tables.proofs.Answers.{Refuses, told_refused, told_accepted, or_else_accepts, or_else_stop, or_else_next, sized_iff, sized_refuses}
+use Rattle.tables.specs.Answer.{Answer}
+use Rattle.tables.specs.Answer.{Accepted}
+use Rattle.tables.specs.Answer.{or_else, refusal, sized}
+use Rattle.tables.proofs.Answers.{Refuses, or_else_accepts, or_else_stop, or_else_next, sized_iff, sized_refuses}
 use Rattle.tables.proofs.Tests.{and_iff}
-use Rattle.tables.proofs.First.{Passed, passed_begun, passed_told, passed_stop, passed_ended}
+use Rattle.tables.proofs.First.{Passed, passed_begun, passed_told, passed_stop}
 use Rattle.tables.proofs.Sum.{Summed, summed_begun, summed_more, summed_ended, sum_same}
 use Rattle.road.specs.Corridor.{NodeState}
 use Rattle.road.specs.Run.{cost}
 use Rattle.record_faults.specs.Records.{fixed_fault, total_fault}
-use Rattle.faults.proofs.Tests.{both_hold, eq_holds, told_false}
-use Rattle.lists.specs.Words.{links_of, steps_of, road_of, Width, trace_of, exits_of, trace_length, plan_length, record_length, record_width, width_of}
-use Rattle.lists.specs.Fits.{CorridorFits}
+use Rattle.faults.proofs.Tests.{both_hold}
+use Rattle.lists.specs.Words.{links_of, steps_of, road_of, Width, trace_of, exits_of, trace_length, plan_length, record_length, width_of}
+use Rattle.lists.specs.Rows.{lent}
 use Rattle.lengths.specs.Lengths.{record_sized, sizes}
 use Rattle.list_scans.specs.Refusals.{ranges}
-use Rattle.lengths.proofs.Sizes.{Sizes, sizes_iff, corridor_fits_lem, demands_fit_lem, record_wide, record_sized_iff, width_told}
+use Rattle.lengths.proofs.Sizes.{Sizes, sizes_iff, corridor_fits_lem, demands_fit_lem, record_wide, record_sized_iff}
 use Rattle.list_scans.proofs.Limits.{ranges_iff}
 use Rattle.simulate_rows.specs.Rows.{row_cost}
 use Rattle.convert.specs.Refusals.{cost_fault, judged}
@@ -30,23 +31,21 @@ use Rattle.convert_rows.specs.Rows.{bare_road}
 use Rattle.convert.specs.Rows.{fixed_refusal, step_refusal, steps_refusal, state_cost_at, cost_in, cost_refusal, Ready}
 use Rattle.convert.proofs.Rows.{TraceRow, trace_row_lem}
 
--- a record's row of w words that begins at `at`, as a call gave it, lies within the record
-pub row_inside : (width links steps w at : ℕ) (words : List ℕ) → at + w ≤ (steps + 1) * w → w ≡ suc links * width → length words ≡ record_length width links steps
-    → at + w ≤ length words
-row_inside width links steps w at words h q e =
-    omega (arith, ap (λ (x : ℕ). (steps + 1) * x) q)
-
 -- ---- 13: the cost row by row
 
--- v is the sum of a row as a call gave it, and w how many words the row has
-pub row_cost_told : (width links steps k at w v : ℕ) (words : List ℕ) → Width width → v ≡ row_cost width links (take (at + w - at) (drop at words)) → at ≡ (k + 1) * w
-    → w ≡ suc links * width → v ≡ state_cost_at width links steps words k
+-- v is the sum of a row, as a call gave it of a view with l for N and w for the width
+pub row_cost_told : (width w links l steps k v : ℕ) (words row : List ℕ) → Width width → w ≡ width → l ≡ links
+    → row ≡ lent ((k + 1) * (suc l * width)) (suc l * width) words → v ≡ row_cost w links row → v ≡ state_cost_at width links steps words k
 unfolding row_cost bare_road
-row_cost_told width links steps k at w v words wide e h q =
-    let p : at ≡ suc k * w = omega arith in
-    let row : TraceRow width links (trace_of width (bare_road [] links steps) words) (exits_of width (bare_road [] links steps) words) (suc k)
-    (take (at + w - at) (drop at words)) = trace_row_lem width (bare_road [] links steps) words (suc k) at w wide p q in
-    e ∙ sum_same (suc links) _ _ (λ i l. ap (λ (s : NodeState). s.vehicles + s.queue) (row.state i (omega arith)))
+row_cost_told width w links l steps k v words row wide p n q e =
+    let told : row ≡ lent (suc k * (suc links * width)) (suc links * width) words =
+    q ∙ ap₂ (λ (j x : ℕ). lent (j * (suc x * width)) (suc x * width) words) (add-one k) n in
+    let states : TraceRow width links (trace_of width (bare_road [] links steps) words) (exits_of width (bare_road [] links steps) words) (suc k)
+    (lent (suc k * (suc links * width)) (suc links * width) words) =
+    trace_row_lem width (bare_road [] links steps) words (suc k) (suc k * (suc links * width)) (suc links * width) wide refl refl in
+    e
+    ∙ ap₂ (λ (x : ℕ) (r : List ℕ). row_cost x links r) p told
+    ∙ sum_same (suc links) _ _ (λ i l. ap (λ (s : NodeState). s.vehicles + s.queue) (states.state i (omega arith)))
 
 -- v is the number as the code has it, `at` where the cost's words start, and a the answer that is made of v
 pub cost_told : (width links steps at total v : ℕ) (words : List ℕ) (a : Answer) → v ≡ total_fault total (get_or words at 0) (get_or words (at + 1) 0)
@@ -66,29 +65,23 @@ pub scanning_begun : (width : ℕ) (corridor demands words : List ℕ) (links st
 scanning_begun width corridor demands words links steps = record { passed = passed_begun _ _; summed = summed_begun _ _ _ }
 
 module _ (width k : ℕ) (corridor demands words : List ℕ) (links steps total : ℕ) (s : Scanning width k corridor demands words links steps total) where
-  -- a is the answer of step k, t what its test answered, and v the vehicles and queues of state k + 1
-  module _ (h : k < steps) (a : Answer) (t : Bool) (e : a ≡ step_refusal width corridor demands links words k) (q : t ≡ is_refused a) where
-    pub scanning_more : (v : ℕ) → t ≡ false → (v ≡ state_cost_at width links steps words k) × (v ≤ 558345748350) → Scanning width (k + 1) corridor demands words links steps (total + v)
+  -- a is the answer of step k, and v the vehicles and queues of state k + 1
+  module _ (h : k < steps) (a : Answer) (e : a ≡ step_refusal width corridor demands links words k) where
+    pub scanning_more : (v : ℕ) → a ≡ Accepted → (v ≡ state_cost_at width links steps words k) × (v ≤ 558345748350)
+        → Scanning width (k + 1) corridor demands words links steps (total + v)
     scanning_more v f c =
-        record { passed = passed_told _ _ _ a s.passed h e (told_accepted a t q f); summed = summed_more _ _ _ _ _ v s.summed h c.0 c.1 }
+        record { passed = passed_told _ _ _ a s.passed h e f; summed = summed_more _ _ _ _ _ v s.summed h c.0 c.1 }
 
-    -- of a step with a refusal no cost is said
-    pub scanning_stop : (v : ℕ) → t ≡ true → (a ≡ steps_refusal width corridor demands links words steps) × (a ≡ Accepted → v ≡ cost_in width links steps words)
-    scanning_stop v r =
-        let refuses = told_refused a t q r in
-        (passed_stop _ _ _ a s.passed h e refuses, λ none. absurd (subst Refuses none refuses))
+    pub scanning_stop : Refuses a → a ≡ steps_refusal width corridor demands links words steps
+    scanning_stop r = passed_stop _ _ _ a s.passed h e r
 
-  pub scanning_ended : steps ≤ k → (Accepted ≡ steps_refusal width corridor demands links words steps) × (Accepted ≡ Accepted → total ≡ cost_in width links steps words)
+  pub scanning_ended : steps ≤ k → total ≡ cost_in width links steps words
   unfolding cost bare_road
-  scanning_ended h = (passed_ended _ _ _ s.passed h, λ e. summed_ended _ _ _ _ _ s.summed h)
+  scanning_ended h = summed_ended _ _ _ _ _ s.summed h
 
 -- ---- 7 to 13, where links and steps are N and K as the code has them
 
-module _ (width : ℕ) (corridor demands words : List ℕ) (links steps : ℕ) (ready : Ready width corridor demands words (links_of corridor) (steps_of demands))
-    (n : links ≡ links_of corridor) (k : steps ≡ steps_of demands) where
-  pub ready_as : Ready width corridor demands words links steps
-  ready_as = subst₂ (λ (l s : ℕ). Ready width corridor demands words l s) (sym n) (sym k) ready
-
+module _ (width : ℕ) (corridor demands words : List ℕ) (links steps : ℕ) (ready : Ready width corridor demands words links steps) where
   judged_are : or_else (fixed_refusal width corridor links steps words)
       (or_else (steps_refusal width corridor demands links words steps) (refusal (cost_fault width (bare_road [] links steps) words) 0 0))
       ≡ judged width (road_of corridor demands) words
@@ -97,7 +90,7 @@ module _ (width : ℕ) (corridor demands words : List ℕ) (links steps : ℕ) (
       ap₂
       (λ (l s : ℕ).
       or_else (fixed_refusal width corridor l s words) (or_else (steps_refusal width corridor demands l words s) (refusal (cost_fault width (bare_road [] l s) words) 0 0)))
-      n k
+      ready.corridor_fits.first ready.demands_fit.first
 
   -- a is the first scan's answer, b the second's, c the third's
   pub judged_fixed : (a : Answer) → a ≡ fixed_refusal width corridor links steps words → Refuses a → a ≡ judged width (road_of corridor demands) words
@@ -110,14 +103,6 @@ module _ (width : ℕ) (corridor demands words : List ℕ) (links steps : ℕ) (
   pub judged_cost : (a b c : Answer) → a ≡ fixed_refusal width corridor links steps words → a ≡ Accepted → b ≡ steps_refusal width corridor demands links words steps → b ≡ Accepted
       → c ≡ cost_refusal width links steps words → c ≡ judged width (road_of corridor demands) words
   judged_cost a b c e h q p t = or_else_next a c _ _ e h (or_else_next b c _ _ q p t) ∙ judged_are
-
-  -- what the scans ask
-  pub fixed_asks : CorridorFits corridor links × ((steps ≤ 1440) × Width width × (length words ≡ record_length width links steps))
-  fixed_asks = let q = ready_as in (q.corridor_fits, (q.demands_fit.short, q.wide, q.record_fits))
-
--- an answer as a call told it
-pub told_accepts : (a x : Answer) → a ≡ x → a ≡ Accepted → x ≡ Accepted
-told_accepts a x e h = sym e ∙ h
 
 -- ---- what 1 to 5 leave: a is their answer as the code has it
 
@@ -134,19 +119,6 @@ ready corridor demands words a s l e h =
       limits = (ranges_iff (road_of corridor demands) z.links z.steps).0 (sym e ∙ h);
     }
 
--- the same with the width as the code has it, and its links and steps
-pub ready_by : (corridor demands words : List ℕ) (links steps width : ℕ) → links ≡ links_of corridor → steps ≡ steps_of demands → width ≡ record_width links steps (length words)
-    → Ready (width_of corridor demands (length words)) corridor demands words (links_of corridor) (steps_of demands) → Ready width corridor demands words (links_of corridor) (steps_of demands)
-ready_by corridor demands words links steps width n k w r =
-    subst (λ (x : ℕ). Ready x corridor demands words (links_of corridor) (steps_of demands))
-    (sym (width_told corridor demands links steps (length words) width n k w)) r
-
--- what they answer with it
-pub judged_by : (corridor demands words : List ℕ) (links steps width : ℕ) → links ≡ links_of corridor → steps ≡ steps_of demands → width ≡ record_width links steps (length words)
-    → judged width (road_of corridor demands) words ≡ judged (width_of corridor demands (length words)) (road_of corridor demands) words
-judged_by corridor demands words links steps width n k w =
-    ap (λ (x : ℕ). judged x (road_of corridor demands) words) (width_told corridor demands links steps (length words) width n k w)
-
 -- ---- the tests of the lengths
 
 abbrev pub record_test : List ℕ → List ℕ → ℕ → Bool
@@ -156,21 +128,6 @@ record_test corridor demands count = sizes corridor demands && record_sized (lin
 abbrev pub room_test : List ℕ → List ℕ → ℕ → Bool
 room_test corridor demands room = sizes corridor demands && eqb room (plan_length (links_of corridor) (steps_of demands))
 
--- x is a length as a call computed it
-pub plan_count : (corridor demands : List ℕ) (links steps count x : ℕ) → links ≡ links_of corridor → steps ≡ steps_of demands → x ≡ plan_length links steps
-    → eqb count x ≡ eqb count (plan_length (links_of corridor) (steps_of demands))
-plan_count corridor demands links steps count x n k e = ap (eqb count) (e ∙ ap₂ plan_length n k)
-
--- x is what the test of a record's length answered
-pub record_count : (corridor demands : List ℕ) (links steps count : ℕ) (x : Bool) → sizes corridor demands ≡ true → links ≡ links_of corridor → steps ≡ steps_of demands
-    → x ≡ record_sized links steps count → x ≡ record_test corridor demands count
-record_count corridor demands links steps count x s n k e =
-    e ∙ ap₂ (λ (l m : ℕ). record_sized l m count) n k ∙ ap (λ (t : Bool). t && record_sized (links_of corridor) (steps_of demands) count) (sym s)
-
-pub record_unsized : (corridor demands : List ℕ) (count : ℕ) (t : Bool) → t ≡ sizes corridor demands → t ≡ false → false ≡ record_test corridor demands count
-record_unsized corridor demands count t e h =
-    ap (λ (x : Bool). x && record_sized (links_of corridor) (steps_of demands) count) (sym (told_false t _ e h))
-
 -- ---- the checker: f and a are what the test of the lengths answered, as a test and as an answer
 
 module _ (corridor demands words : List ℕ) (f : Bool) (s : f ≡ record_test corridor demands (length words)) (a : Answer) (e : a ≡ sized f) where
@@ -178,10 +135,10 @@ module _ (corridor demands words : List ℕ) (f : Bool) (s : f ≡ record_test c
   unfolding check_answer
   check_sized r = or_else_stop a _ _ (e ∙ ap sized s) r
 
-  pub check_asks : a ≡ Accepted → (sizes corridor demands ≡ true) × (length words ≡ record_length (width_of corridor demands (length words)) (links_of corridor) (steps_of demands))
+  pub check_asks : a ≡ Accepted → length words ≡ record_length (width_of corridor demands (length words)) (links_of corridor) (steps_of demands)
   check_asks g =
-      (both_hold _ _ (λ x. x, λ x. x) (record_sized_iff (links_of corridor) (steps_of demands) (length words))).0
-      (sym s ∙ (sized_iff f).0 (sym e ∙ g))
+      ((both_hold _ _ (λ x. x, λ x. x) (record_sized_iff (links_of corridor) (steps_of demands) (length words))).0
+      (sym s ∙ (sized_iff f).0 (sym e ∙ g))).1
 
   pub check_rest : (b : Answer) → a ≡ Accepted → b ≡ record_refusal corridor demands words
       → b ≡ check_answer corridor demands words
@@ -249,7 +206,7 @@ module _ (corridor demands words : List ℕ) (room : ℕ) (f : Bool) (s : f ≡ 
   -- what is left for the writing of the plan
   pub plan_asks : (b : Answer) → a ≡ Accepted → b ≡ check_answer corridor demands words → b ≡ Accepted
       → Ready (width_of corridor demands (length words)) corridor demands words (links_of corridor) (steps_of demands)
-      × ((judged (width_of corridor demands (length words)) (road_of corridor demands) words ≡ Accepted) × (room ≡ plan_length (links_of corridor) (steps_of demands)))
+      × (judged (width_of corridor demands (length words)) (road_of corridor demands) words ≡ Accepted)
   plan_asks b g q z =
-      let (k, j, l) = also_kept corridor demands words _ (sym (also_checks corridor demands words _ f s a e b g q) ∙ z) in
-      (k, (j, (eq_holds room (plan_length (links_of corridor) (steps_of demands))).0 l))
+      let (k, j, _) = also_kept corridor demands words _ (sym (also_checks corridor demands words _ f s a e b g q) ∙ z) in
+      (k, j)

@@ -6,12 +6,13 @@ use mathlib.Core.Path.{◌≡◌, ◌∙◌}
 use mathlib.Core.Logic.{◌↔◌}
 use native.Mathlib.Omega.{arith}
 use lib.ListN.{get_or}
-use Rattle.tables.specs.declared.Answer.TheVariants.{Accepted}
+use Rattle.std.specs.Prelude.{Option}
+use Rattle.tables.specs.Answer.{Accepted}
 use Rattle.tables.specs.Answer.{refusal}
 use Rattle.tables.specs.First.{first_place}
 use Rattle.tables.proofs.Answers.{or_else_accepts, or_else_right, refusal_accepts}
 use Rattle.tables.proofs.First.{first_place_accepts, first_place_same}
-use Rattle.road.specs.declared.Exit.{Exit}
+use Rattle.road.specs.declared.Units.{Units}
 use Rattle.road.specs.Corridor.{Road, Trace, nodes}
 use Rattle.road.specs.Run.{junction, next, cost}
 use Rattle.record_faults.specs.Records.{exit_kept, total_fault}
@@ -41,7 +42,7 @@ pub record Moves (road : Road) (trace : Trace) : Type 0 where
       → Stepped (junction road k (trace.state k) i) (trace.flows k i) (next road k (trace.state k) (trace.flows k) i) (trace.state (suc k) i)
 
 -- what a record says of the exits keeps 7 and 11: none where zero is fixed, and that of its f in each step
-pub record ExitsKept (road : Road) (trace : Trace) (said : ℕ → ℕ → Exit) : Type 0 where
+pub record ExitsKept (road : Road) (trace : Trace) (said : ℕ → ℕ → Option Units) : Type 0 where
   pub none : (k i : ℕ) → k ≤ road.steps → i ≤ road.links → NoExit road k i (said k i)
   pub right : (k i : ℕ) → k < road.steps → i ≤ road.links → exit_kept (said k i) (exit_at road trace k i) ≡ true
 
@@ -56,7 +57,7 @@ pub record Keeps (width : ℕ) (road : Road) (words : List ℕ) : Type 0 where
   pub queues : QueuesHeld road (trace_of width road words)
   pub costs : CostWords width road words (cost road (trace_of width road words))
 
-pub fixed_all : (road : Road) (trace : Trace) (said : ℕ → ℕ → Exit) → (first_place (suc road.steps) (nodes road) (fixed_at road trace said) ≡ Accepted)
+pub fixed_all : (road : Road) (trace : Trace) (said : ℕ → ℕ → Option Units) → (first_place (suc road.steps) (nodes road) (fixed_at road trace said) ≡ Accepted)
     ↔ ((k i : ℕ) → k ≤ road.steps → i ≤ road.links → Fixed road k i (trace.state k i) (trace.flows k i) × NoExit road k i (said k i))
 fixed_all road trace said =
     let r = first_place_accepts (suc road.steps) (nodes road) (fixed_at road trace said) in (
@@ -65,7 +66,7 @@ fixed_all road trace said =
     )
 
 -- of the first n steps
-pub steps_all : (road : Road) (trace : Trace) (said : ℕ → ℕ → Exit) (n : ℕ) → first_place n (nodes road) (step_at road trace said) ≡ Accepted
+pub steps_all : (road : Road) (trace : Trace) (said : ℕ → ℕ → Option Units) (n : ℕ) → first_place n (nodes road) (step_at road trace said) ≡ Accepted
     → (k i : ℕ) → k < n → i ≤ road.links
     → Stepped (junction road k (trace.state k) i) (trace.flows k i) (next road k (trace.state k) (trace.flows k) i) (trace.state (suc k) i)
     × (exit_kept (said k i) (exit_at road trace k i) ≡ true)
@@ -76,7 +77,7 @@ steps_all road trace said n e k i hk hi =
     ((first_place_accepts n (nodes road) (step_at road trace said)).0 e k i hk (omega arith))
 
 -- of a trace that keeps 7 to 11, what 8 to 12 find is what 12 finds
-pub steps_queue : (road : Road) (trace : Trace) (said : ℕ → ℕ → Exit) → Moves road trace → ExitsKept road trace said
+pub steps_queue : (road : Road) (trace : Trace) (said : ℕ → ℕ → Option Units) → Moves road trace → ExitsKept road trace said
     → first_place road.steps (nodes road) (step_at road trace said)
     ≡ first_place road.steps (nodes road) (λ k i. queue_fault (road.node i).ramp.queue_limit (trace.state (suc k) i).queue)
 unfolding junction
@@ -92,7 +93,7 @@ pub judged_queue : (width : ℕ) (road : Road) (words : List ℕ) → Moves road
 unfolding judged
 judged_queue width road words m x c =
     let trace : Trace = trace_of width road words in
-    let said : ℕ → ℕ → Exit = exits_of width road words in
+    let said : ℕ → ℕ → Option Units = exits_of width road words in
     let fixed : first_place (suc road.steps) (nodes road) (fixed_at road trace said) ≡ Accepted =
     (fixed_all road trace said).1 (λ k i hk hi. (m.fixed k i hk hi, x.none k i hk hi)) in
     let right : refusal (cost_fault width road words) 0 0 ≡ Accepted = (refusal_accepts (cost_fault width road words) 0 0).1 ((cost_iff width road words).1 c) in
@@ -105,7 +106,7 @@ judged_iff width road words = (to, from)
     trace : Trace
     trace = trace_of width road words
 
-    said : ℕ → ℕ → Exit
+    said : ℕ → ℕ → Option Units
     said = exits_of width road words
 
     to : judged width road words ≡ Accepted → Keeps width road words

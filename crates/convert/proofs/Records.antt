@@ -6,8 +6,9 @@ use mathlib.Core.Logic.{⊎_elim}
 use mathlib.Core.Path.{◌≡◌, refl, sym, ap, subst, subst₂, ◌∙◌}
 use native.Mathlib.Omega.{arith}
 use lib.ListN.{length}
+use Rattle.std.specs.Prelude.{Option}
 use Rattle.tables.proofs.Numbers.{le_or_lt}
-use Rattle.road.specs.declared.Exit.{Exit}
+use Rattle.road.specs.declared.Units.{Units}
 use Rattle.road.specs.Corridor.{Road, Plan, Flows, Trace}
 use Rattle.road.specs.Step.{exit}
 use Rattle.road.specs.Run.{junction, no_flow, run, cost}
@@ -72,7 +73,7 @@ module _ (width : ℕ) (wide : Width width) (road : Road) (limits : Limits road)
             subst (λ (f : Flows). exit_kept (said k i) (exit f.main (road.split k i)) ≡ true) (sym (read k i (omega arith) hi).flows) (record_exits width road (run road plan) wide k i (omega arith) hi);
       }
     where
-      said : ℕ → ℕ → Exit
+      said : ℕ → ℕ → Option Units
       said = exits_of width road (record_words width road (run road plan))
 
       read : SameTraces road (trace_of width road (record_words width road (run road plan))) (run road plan)

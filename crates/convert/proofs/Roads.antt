@@ -4,11 +4,12 @@ use Prim.Native.Nat.{ℕ, suc, ◌≤◌, ◌<◌}
 use mathlib.Core.List.{List}
 use mathlib.Core.Path.{◌≡◌, ap, ap₂, ◌∙◌}
 use native.Mathlib.Omega.{arith}
-use Rattle.tables.specs.declared.Answer.{Answer}
+use Rattle.std.specs.Prelude.{Option}
+use Rattle.tables.specs.Answer.{Answer}
 use Rattle.tables.specs.Answer.{or_else, refusal}
 use Rattle.tables.specs.First.{first_place}
 use Rattle.tables.proofs.First.{first_place_same}
-use Rattle.road.specs.declared.Exit.{Exit}
+use Rattle.road.specs.declared.Units.{Units}
 use Rattle.road.specs.Corridor.{Node, NodeState, Road, Trace, nodes}
 use Rattle.road.specs.Step.{Junction}
 use Rattle.road.specs.Run.{cost}
@@ -29,7 +30,7 @@ module _ (road other : Road) (e : SameRoads road other) (width : ℕ) (words : L
   abbrev trace : Trace
   trace = trace_of width road words
 
-  abbrev said : ℕ → ℕ → Exit
+  abbrev said : ℕ → ℕ → Option Units
   said = exits_of width road words
 
   like_fixed : first_place (suc road.steps) (nodes road) (fixed_at road trace said) ≡ first_place (suc road.steps) (nodes road) (fixed_at like trace said)

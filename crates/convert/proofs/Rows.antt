@@ -8,16 +8,16 @@ use native.Mathlib.Omega.{arith}
 use borrow.Author.Tests.{ltb-true}
 use lib.Dec.{ltb}
 use lib.ListN.{length, get_or, take, drop}
-use Rattle.tables.specs.declared.Answer.{Answer}
-use Rattle.tables.specs.declared.Answer.TheVariants.{Accepted}
+use Rattle.std.specs.Prelude.{Option, Some, None}
+use Rattle.tables.specs.Answer.{Answer}
+use Rattle.tables.specs.Answer.{Accepted}
 use Rattle.tables.specs.Answer.{refusal}
 use Rattle.tables.specs.First.{first_node, first_place}
 use Rattle.tables.specs.Grid.{place}
 use Rattle.tables.proofs.First.{first_same}
 use Rattle.tables.proofs.Numbers.{row_fits_lem}
 use Rattle.tables.proofs.Part.{part_length, part_at}
-use Rattle.road.specs.declared.Exit.{Exit}
-use Rattle.road.specs.declared.Exit.TheVariants.{Unsaid, Said}
+use Rattle.road.specs.declared.Units.{Units}
 use Rattle.road.specs.Corridor.{NodeState, Road, Flows, Trace, nodes}
 use Rattle.road.specs.Run.{junction, next}
 use Rattle.road.specs.Limits.{Limits}
@@ -26,7 +26,7 @@ use Rattle.road.proofs.Runs.{link_tops}
 use Rattle.road.proofs.Same.{junction_same, next_same}
 use Rattle.settings.specs.Setting.{setting_for}
 use Rattle.lists.specs.Words.{links_of, steps_of, downstream_word, node_at, road_of, Width, trace_of, exit_said, exits_of}
-use Rattle.lists.specs.Rows.{state_in, flows_in, exit_in, step_road}
+use Rattle.lists.specs.Rows.{lent, state_in, flows_in, exit_in, step_road}
 use Rattle.lists.specs.Fits.{RowFits}
 use Rattle.simulate.proofs.Steps.{DemandRow, demand_row_lem, step_junction, step_next}
 use Rattle.record_faults.specs.Records.{fixed_fault, step_fault}
@@ -40,7 +40,7 @@ use Rattle.convert.proofs.Plans.{trace_jam}
 use Rattle.convert.proofs.Records.{queues_within}
 
 -- row k of a record, as the code has it
-pub record TraceRow (width links : ℕ) (trace : Trace) (said : ℕ → ℕ → Exit) (k : ℕ) (row : List ℕ) : Type 0 where
+pub record TraceRow (width links : ℕ) (trace : Trace) (said : ℕ → ℕ → Option Units) (k : ℕ) (row : List ℕ) : Type 0 where
   pub state : (i : ℕ) → i ≤ links → state_in width row i ≡ trace.state k i
   pub flows : (i : ℕ) → i ≤ links → flows_in width row i ≡ trace.flows k i
   pub exits : (i : ℕ) → i ≤ links → exit_in width row i ≡ said k i
@@ -50,8 +50,9 @@ said_same : (width x y : ℕ) → (4 < width → x ≡ y) → exit_said width x 
 unfolding exit_said
 said_same width x y h = by_width (ltb 4 width) refl
   where
-    by_width : (t : Bool) → ltb 4 width ≡ t → cond t (Said (record { 0 = x })) Unsaid ≡ cond t (Said (record { 0 = y })) Unsaid
-    by_width true e = let q : x ≡ y = h (ltb-true 4 width e) in λ z. Said (record { 0 = q z })
+    by_width : (t : Bool) → ltb 4 width ≡ t
+        → cond {A = Option Units} t (Some (record { 0 = x })) None ≡ cond {A = Option Units} t (Some (record { 0 = y })) None
+    by_width true e = let q : x ≡ y = h (ltb-true 4 width e) in λ z. Some (record { 0 = q z })
     by_width false e = refl
 
 -- `at` is where the row starts, and w how many words it has
@@ -89,6 +90,14 @@ unfolding bare_road
 fixed_row_told width corridor words links steps k at w a wide e h q =
     fixed_told width corridor words links steps k _ a (trace_row_lem width (bare_road corridor links steps) words k at w wide h q) e
 
+-- a row as a record's view gives it: l is N and w the width as the view has them
+pub fixed_viewed : (width w : ℕ) (corridor words row : List ℕ) (links l steps k : ℕ) (a : Answer) → Width width → w ≡ width → l ≡ links
+    → row ≡ lent (k * (suc l * width)) (suc l * width) words → a ≡ first_node (suc links) k (fixed_fault_in w corridor links steps k row)
+    → a ≡ fixed_row_refusal width corridor links steps words k
+fixed_viewed width w corridor words row links l steps k a wide p n q e =
+    fixed_row_told width corridor words links steps k (k * (suc l * width)) (suc l * width) a wide
+    (e ∙ (λ z. first_node (suc links) k (fixed_fault_in (p z) corridor links steps k (q z)))) refl (ap (λ (x : ℕ). suc x * width) n)
+
 -- what it asks of a road, the corridor and its demands have
 pub fixed_are : (width : ℕ) (corridor demands words : List ℕ) (links steps : ℕ) → links ≡ links_of corridor → steps ≡ steps_of demands
     → fixed_refusal width corridor links steps words
@@ -105,7 +114,7 @@ module _ (width : ℕ) (corridor demands words : List ℕ) (links steps : ℕ) (
   abbrev trace : Trace
   trace = trace_of width (road_of corridor demands) words
 
-  abbrev said : ℕ → ℕ → Exit
+  abbrev said : ℕ → ℕ → Option Units
   said = exits_of width (road_of corridor demands) words
 
   n : links ≡ links_of corridor
@@ -213,53 +222,65 @@ module _ (width : ℕ) (corridor demands words : List ℕ) (links steps : ℕ) (
   trace_lent j at w e q =
       trace_row_lem width (road_of corridor demands) words j at w ready.wide e (q ∙ ap (λ (x : ℕ). suc x * width) n)
 
+  -- ---- these rows as the lists' views give them: l is N as a view has it
+
+  pub demand_viewed : (l : ℕ) (demand : List ℕ) → l ≡ links → k < steps → demand ≡ lent (1 + k * (suc l * 2)) (suc l * 2) demands
+      → DemandRow corridor demands k demand × RowFits 2 demand links
+  demand_viewed l demand e hk q =
+      let p : demand ≡ lent (1 + k * (suc links * 2)) (suc links * 2) demands = q ∙ ap (λ (x : ℕ). lent (1 + k * (suc x * 2)) (suc x * 2) demands) e in (
+        subst (DemandRow corridor demands k) (sym p)
+            (demand_row_lem corridor demands k (1 + k * (suc links * 2)) (suc links * 2) refl (ap (λ (x : ℕ). suc x * 2) n)),
+        ap length p
+            ∙ part_length (1 + k * (suc links * 2)) (suc links * 2) (length demands) demands
+            (omega (arith, row_fits_lem k steps (suc links * 2) hk, ready.demands_fit.words)) refl,
+      )
+
+  pub record_viewed : (j l : ℕ) (row : List ℕ) → l ≡ links → j ≤ steps → row ≡ lent (j * (suc l * width)) (suc l * width) words
+      → TraceRow width (links_of corridor) (trace_of width (road_of corridor demands) words) (exits_of width (road_of corridor demands) words) j row
+      × RowFits width row links
+  record_viewed j l row e hj q =
+      let p : row ≡ lent (j * (suc links * width)) (suc links * width) words = q ∙ ap (λ (x : ℕ). lent (j * (suc x * width)) (suc x * width) words) e in (
+        subst (TraceRow width (links_of corridor) trace said j) (sym p) (trace_lent j (j * (suc links * width)) (suc links * width) refl refl),
+        ap length p
+            ∙ part_length (j * (suc links * width)) (suc links * width) (length words) words
+            (omega (arith, row_fits_lem j (suc steps) (suc links * width) (omega arith), ready.record_fits)) refl,
+      )
+
   -- row k + 1
-  pub after_lent : (at w : ℕ) → at ≡ (k + 1) * w → w ≡ suc links * width
-      → TraceRow width (links_of corridor) (trace_of width (road_of corridor demands) words) (exits_of width (road_of corridor demands) words) (suc k) (take (at + w - at) (drop at words))
-  after_lent at w e q =
-      subst (λ (j : ℕ). TraceRow width (links_of corridor) trace said j (take (at + w - at) (drop at words))) (add-one k) (trace_lent (k + 1) at w e q)
+  pub after_viewed : (l : ℕ) (row : List ℕ) → l ≡ links → k < steps → row ≡ lent ((k + 1) * (suc l * width)) (suc l * width) words
+      → TraceRow width (links_of corridor) (trace_of width (road_of corridor demands) words) (exits_of width (road_of corridor demands) words) (suc k) row
+      × RowFits width row links
+  after_viewed l row e hk q =
+      let (t, fits) = record_viewed (k + 1) l row e (omega arith) q in
+      (subst (λ (j : ℕ). TraceRow width (links_of corridor) trace said j row) (add-one k) t, fits)
 
-  pub step_row_told : (r at next w downstream : ℕ) (a : Answer) → r ≡ k * ((links + 1) * 2) → at ≡ k * w → next ≡ (k + 1) * w → w ≡ suc links * width → downstream ≡ downstream_word demands links steps k
-      → a ≡ first_node (suc links) k
-      (step_fault_in width corridor (take (1 + r + (links + 1) * 2 - (1 + r)) (drop (1 + r) demands)) downstream (take (at + w - at) (drop at words))
-      (take (next + w - next) (drop next words)))
-      → a ≡ step_refusal width corridor demands links words k
-  step_row_told r at next w downstream a e q p v f told = step_told _ _ (demand_lent r e) (trace_lent k at w q v) downstream f _ a (after_lent next w p v) told
+  module _ (demand row : List ℕ) (d : DemandRow corridor demands k demand × RowFits 2 demand links)
+      (t : TraceRow width (links_of corridor) (trace_of width (road_of corridor demands) words) (exits_of width (road_of corridor demands) words) k row
+      × RowFits width row links)
+      (hk : k < steps) where
+    -- the rows of a step keep what is asked, where each node's words do; w is the width as the view has it
+    rows_kept : (w : ℕ) → w ≡ width → ((j : ℕ) → j ≤ links → NodeKept width corridor demand row j) → RowsKept w corridor demand row links
+    rows_kept w e kept =
+        subst (λ (x : ℕ). RowsKept x corridor demand row links) (sym e)
+        (record { corridor_fits = ready.corridor_fits; demand_fits = d.1; row_fits = t.1; wide = ready.wide; kept = kept })
 
-  module _ (r at w : ℕ) (e : r ≡ k * ((links + 1) * 2)) (q : at ≡ k * w) (v : w ≡ suc links * width) (hk : k < steps) where
-    abbrev pub demand_row : List ℕ
-    demand_row = take (1 + r + (links + 1) * 2 - (1 + r)) (drop (1 + r) demands)
+    pub step_row_kept : (w : ℕ) → w ≡ width → fixed_refusal width corridor links steps words ≡ Accepted
+        → steps_refusal width corridor demands links words k ≡ Accepted
+        → RowsKept w corridor demand row links
+    step_row_kept w e fixed before = rows_kept w e (step_kept _ _ d.0 t.0 (downstream_word demands links steps k) refl fixed before hk)
 
-    abbrev pub trace_row : List ℕ
-    trace_row = take (at + w - at) (drop at words)
-
-    demand_row_fits : RowFits 2 demand_row links
-    demand_row_fits =
-        part_length (1 + r) ((links + 1) * 2) (length demands) demands (omega (arith, row_fits_lem k steps ((links + 1) * 2) hk, ready.demands_fit.words)) refl ∙ omega arith
-
-    trace_row_fits : RowFits width trace_row links
-    trace_row_fits =
-        let m : suc steps * (suc links * width) ≡ suc steps * w = ap (λ (x : ℕ). suc steps * x) (sym v) in
-        part_length at w (length words) words (omega (arith, row_fits_lem k (suc steps) w (omega arith), ready.record_fits)) refl ∙ v
-
-    -- the rows of a step keep what is asked, where each node's words do
-    rows_kept : ((j : ℕ) → j ≤ links → NodeKept width corridor demand_row trace_row j) → RowsKept width corridor demand_row trace_row links
-    rows_kept kept =
-        record { corridor_fits = ready.corridor_fits; demand_fits = demand_row_fits; row_fits = trace_row_fits; wide = ready.wide; kept = kept }
-
-    pub step_row_kept : fixed_refusal width corridor links steps words ≡ Accepted → steps_refusal width corridor demands links words k ≡ Accepted
-        → RowsKept width corridor demand_row trace_row links
-    step_row_kept fixed before = rows_kept (step_kept _ _ (demand_lent r e) (trace_lent k at w q v) (downstream_word demands links steps k) refl fixed before hk)
+    pub step_row_told : (w downstream : ℕ) (after : List ℕ) (a : Answer) → w ≡ width → downstream ≡ downstream_word demands links steps k
+        → TraceRow width (links_of corridor) (trace_of width (road_of corridor demands) words) (exits_of width (road_of corridor demands) words) (suc k) after
+        × RowFits width after links
+        → a ≡ first_node (suc links) k (step_fault_in w corridor demand downstream row after)
+        → a ≡ step_refusal width corridor demands links words k
+    step_row_told w downstream after a e beyond s told =
+        step_told demand row d.0 t.0 downstream beyond after a s.0
+        (told ∙ ap (λ (x : ℕ). first_node (suc links) k (step_fault_in x corridor demand downstream row after)) e)
 
     module _ (accepted : judged width (road_of corridor demands) words ≡ Accepted) where
-      pub plan_row_kept : RowsKept width corridor demand_row trace_row links
-      plan_row_kept = rows_kept (plan_kept _ _ (demand_lent r e) (trace_lent k at w q v) (downstream_word demands links steps k) refl accepted hk)
-
-      pub plan_row_sent : SentKept width trace_row links
-      plan_row_sent = plan_sent _ _ (demand_lent r e) (trace_lent k at w q v) (downstream_word demands links steps k) refl accepted hk
-
-  -- row k + 1 has room for nodes 0..N
-  pub after_row_fits : (at w : ℕ) → at ≡ (k + 1) * w → w ≡ suc links * width → k < steps → RowFits width (take (at + w - at) (drop at words)) links
-  after_row_fits at w e v hk =
-      let m : suc steps * (suc links * width) ≡ suc steps * w = ap (λ (x : ℕ). suc steps * x) (sym v) in
-      part_length at w (length words) words (omega (arith, row_fits_lem (k + 1) (suc steps) w (omega arith), ready.record_fits)) refl ∙ v
+      pub plan_row_kept : (w : ℕ) → w ≡ width → RowsKept w corridor demand row links × SentKept w row links
+      plan_row_kept w e = (
+        rows_kept w e (plan_kept _ _ d.0 t.0 (downstream_word demands links steps k) refl accepted hk),
+        subst (λ (x : ℕ). SentKept x row links) (sym e) (plan_sent _ _ d.0 t.0 (downstream_word demands links steps k) refl accepted hk),
+      )

@@ -1,6 +1,6 @@
 -- Checker, converter and normal form: their answers, and the plan that they write.
 use Rattle.std.specs.Prelude.{ℕ, Bool, ◌&&◌, List, length, eqb}
-use Rattle.tables.specs.declared.Answer.{Answer}
+use Rattle.tables.specs.Answer.{Answer}
 use Rattle.tables.specs.Answer.{or_else, sized, left}
 use Rattle.road.specs.Corridor.{Road, Plan, Trace}
 use Rattle.road.specs.Run.{junction}

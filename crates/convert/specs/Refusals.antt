@@ -1,9 +1,9 @@
 -- Refusals 7 to 13 of document 01, with the exits of request 04: what a proposed record keeps.
-use Rattle.std.specs.Prelude.{ℕ, suc, ◌+◌, List, get_or}
-use Rattle.tables.specs.declared.Answer.{Answer}
+use Rattle.std.specs.Prelude.{ℕ, suc, ◌+◌, List, Option, get_or}
+use Rattle.tables.specs.Answer.{Answer}
 use Rattle.tables.specs.Answer.{or_else, refusal}
 use Rattle.tables.specs.First.{first_place}
-use Rattle.road.specs.declared.Exit.{Exit}
+use Rattle.road.specs.declared.Units.{Units}
 use Rattle.road.specs.Corridor.{Road, Trace, nodes}
 use Rattle.road.specs.Run.{junction, next, cost}
 use Rattle.record_faults.specs.Records.{fixed_fault, step_fault, total_fault}
@@ -20,10 +20,10 @@ cost_fault width road words =
 -- ---- 7 over the whole record, then 8 to 12 by step, node and number, 13 last
 
 -- `said` is what the record says of the exits
-abbrev pub fixed_at : Road → Trace → (ℕ → ℕ → Exit) → ℕ → ℕ → ℕ
+abbrev pub fixed_at : Road → Trace → (ℕ → ℕ → Option Units) → ℕ → ℕ → ℕ
 fixed_at road trace said k i = fixed_fault road k i (trace.state k i) (trace.flows k i) (said k i)
 
-abbrev pub step_at : Road → Trace → (ℕ → ℕ → Exit) → ℕ → ℕ → ℕ
+abbrev pub step_at : Road → Trace → (ℕ → ℕ → Option Units) → ℕ → ℕ → ℕ
 step_at road trace said k i =
     step_fault (junction road k (trace.state k) i) (trace.flows k i) (said k i) (next road k (trace.state k) (trace.flows k) i) (trace.state (suc k) i)
 

@@ -1,6 +1,6 @@
 -- The refusals of a record row by row, as the scans of the lists find them, and what the lists keep where they begin.
 use Rattle.std.specs.Prelude.{ℕ, suc, ◌≡◌, List, [], length}
-use Rattle.tables.specs.declared.Answer.{Answer}
+use Rattle.tables.specs.Answer.{Answer}
 use Rattle.tables.specs.Answer.{refusal}
 use Rattle.tables.specs.First.{first_node, first_place}
 use Rattle.road.specs.Run.{state_cost, cost}

@@ -1,3 +1,3 @@
-// What asks something of its caller: scans of whole lists, the writing of a plan.
-pub mod plans;
+// What asks something of its caller: tests of the lengths, and a proposed record's scans and plan.
+pub mod proposal;
 pub mod scans;

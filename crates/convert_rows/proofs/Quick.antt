@@ -6,44 +6,46 @@ use mathlib.Core.Path.{◌≡◌, refl, sym, ap, subst, subst₂, ◌∙◌}
 use native.Mathlib.Omega.{arith}
 use borrow.Author.Count.{below_more}
 use lib.ListN.{get_or}
-use Rattle.tables.specs.declared.Answer.TheVariants.{Accepted}
-use Rattle.tables.specs.Answer.{unless}
+use Rattle.tables.specs.Answer.{Accepted}
 use Rattle.tables.specs.First.{first_node}
 use Rattle.tables.proofs.First.{first_node_accepts}
 use Rattle.tables.proofs.Numbers.{le_or_lt}
 use Rattle.tables.proofs.Sum.{Summed, summed_begun, summed_more}
-use Rattle.road.specs.declared.Ramp as ramps
 use Rattle.road.specs.declared.NodeState as states
 use Rattle.road.specs.declared.Junction as junctions
 use Rattle.road.specs.declared.Flows as flows
-use Rattle.road.specs.declared.Exit.{Exit}
-use Rattle.road.specs.Corridor.{Link, Ramp, NodeState, Flows}
-use Rattle.road.specs.Step.{Junction, exit, outflow, moved}
+use Rattle.road.specs.Corridor.{Link, Ramp, NodeState}
+use Rattle.road.specs.Step.{Junction, outflow, moved}
 use Rattle.road.specs.Run.{supply, junction, inflow, next}
 use Rattle.road.specs.Values.{link_of, ramp_of, state_of, junction_of, flows_of}
-use Rattle.road.proofs.Rules.{state_eq}
 use Rattle.settings.specs.Share.{Permitted}
-use Rattle.faults.proofs.Tests.{no_fault}
-use Rattle.record_faults.specs.Records.{exit_kept}
 use Rattle.record_faults.proofs.Records.{step_iff}
 use Rattle.lists.specs.Words.{links_of, Width}
-use Rattle.lists.specs.Rows.{state_in, flows_in, exit_in, step_road}
+use Rattle.lists.specs.Rows.{state_in, flows_in, step_road}
 use Rattle.lists.specs.Fits.{NodeIn}
 use Rattle.lists.proofs.Rows.{node_in_lem}
 use Rattle.link_table.specs.Table.{link_in, ramp_in, table_of, table_road}
 use Rattle.link_table.proofs.Table.{table_fits_lem, link_told, ramp_told, junction_told, supply_ends}
 use Rattle.simulate_rows.proofs.Rows.{row_summed}
-use Rattle.convert_rows.specs.Rows.{step_fault_in, SentKept}
-use Rattle.convert_rows.specs.Quick.{TableKept, OfferedKept, NodeHeld, FlowsFit, FlowsKept, NodeMoves, gains_in, MovesKept}
+use Rattle.convert_rows.specs.Rows.{step_fault_in, RowsKept, SentKept}
+use Rattle.convert_rows.specs.Quick.{TableKept, OfferedKept, FlowsFit, FlowsKept, NodeMoves, gains_in, MovesKept}
 use Rattle.convert_rows.proofs.Steps.{permitted_held, Gaining, gaining_begun, gaining_more}
 
 -- ---- what is asked
+
+-- node i's words are in the corridor's table
+pub in_table : (corridor table : List ℕ) (links i : ℕ) → table ≡ table_of corridor links → i ≤ links → NodeIn 8 table i
+in_table corridor table links i e h = node_in_lem 8 links i table (table_fits_lem corridor links table e) h
+
+pub tabled : (width : ℕ) (corridor table demand row : List ℕ) (links : ℕ) → table ≡ table_of corridor links → RowsKept width corridor demand row links
+    → TableKept width table demand row links
+tabled width corridor table demand row links e r = record { corridor = corridor; told = e; rows = r }
 
 module _ (width : ℕ) (table demand row : List ℕ) (links : ℕ) (kept : TableKept width table demand row links) where
   pub node_room : (i : ℕ) → i ≤ links → NodeIn 8 table i × NodeIn 2 demand i × NodeIn width row i × Width width
   node_room i h =
       let rows = kept.rows in
-      (node_in_lem 8 links i table (table_fits_lem _ links table kept.told) h, node_in_lem 2 links i demand rows.demand_fits h, node_in_lem width links i row rows.row_fits h, rows.wide)
+      (in_table _ table links i kept.told h, node_in_lem 2 links i demand rows.demand_fits h, node_in_lem width links i row rows.row_fits h, rows.wide)
 
   -- what the receiving of the next link asks
   pub next_asks : (i : ℕ) → i < links
@@ -62,17 +64,6 @@ module _ (width : ℕ) (table demand row : List ℕ) (links : ℕ) (kept : Table
           permitted_held _ _ (sent i h)
           (omega (arith, ap (λ (x : Link). x.full_speed) (link_told _ links table kept.told i h), (kept.rows.kept i h).full_speed))
 
-  pub node_held : SentKept width row links × OfferedKept width row links → (i g : ℕ) → i ≤ links → g ≤ 134283264 → NodeHeld width demand row g i
-  node_held held i g h b =
-      let k = kept.rows.kept i h in
-      record {
-        main = held.0 i h;
-        ramp = held.1 i h;
-        vehicles = omega (arith, k.vehicles);
-        queue = omega (arith, k.queue, k.arrivals);
-        split = k.split;
-      }
-
 -- ---- one node, by value
 
 -- a and f are the node and its flows as the code has them
@@ -81,30 +72,6 @@ pub fit_told : (width : ℕ) (table demand row : List ℕ) (i : ℕ) (a : juncti
     → FlowsFit width table demand row a.supply.0 i
 fit_told width table demand row i a f l r s q b p =
     subst₂ Permitted (λ z. record { link = l z; ramp = r z; state = s z; split = b z; supply = a.supply.0 }) q p
-
--- what rule 6 asks: s, f and q are a node's state, flows and arrivals as the code has them
-pub held_asks : (width : ℕ) (demand row : List ℕ) (g i : ℕ) (s : states.NodeState) (f : flows.Flows) (q : ℕ) → NodeHeld width demand row g i → state_of s ≡ state_in width row i
-    → flows_of f ≡ flows_in width row i → q ≡ get_or demand (i * 2 + 0) 0
-    → ((f.main.0 ≤ s.vehicles.0) × (f.ramp.0 ≤ s.queue.0)) × ((s.vehicles.0 + g ≤ 4294967295) × (s.queue.0 + q ≤ 4294967295))
-held_asks width demand row g i s f q h a b e =
-    let vehicles : s.vehicles.0 ≡ (state_in width row i).vehicles = ap (λ (x : NodeState). x.vehicles) a in
-    let queue : s.queue.0 ≡ (state_in width row i).queue = ap (λ (x : NodeState). x.queue) a in
-    let main : f.main.0 ≡ (flows_in width row i).main = ap (λ (x : Flows). x.main) b in
-    let ramp : f.ramp.0 ≡ (flows_in width row i).ramp = ap (λ (x : Flows). x.ramp) b in
-    ((omega arith, omega arith), (omega arith, omega arith))
-
--- v is the number of the exit's fault, m the state that rule 6 gives and n the one in the row after, as the code has them
-pub moves_told : (width : ℕ) (table demand row after : List ℕ) (g i v b q : ℕ) (x : Exit) (f : flows.Flows) (s m n : states.NodeState) (r : ramps.Ramp)
-    → x ≡ exit_in width row i → flows_of f ≡ flows_in width row i → b ≡ get_or demand (i * 2 + 1) 0 → v ≡ unless (exit_kept x (exit f.main.0 b)) 11 → v ≡ 0
-    → state_of s ≡ state_in width row i → q ≡ get_or demand (i * 2 + 0) 0 → state_of m ≡ moved (state_of s) g q (flows_of f) → state_of n ≡ state_in width after i
-    → n.vehicles.0 ≡ m.vehicles.0 → n.queue.0 ≡ m.queue.0 → ramp_of r ≡ ramp_in table i → n.queue.0 ≤ r.queue_limit.0
-    → NodeMoves width table demand row after g i
-moves_told width table demand row after g i v b q x f s m n r said sent split fault none state waits moves next vehicles queue ramp limit =
-    record {
-      exits = sym (λ z. exit_kept (said z) (exit (sent z).main (split z))) ∙ (no_fault _ 11 (λ e. omega arith) (λ e. e, λ e. e)).0 (sym fault ∙ none);
-      moves = sym next ∙ state_eq (state_of n) (state_of m) vehicles queue ∙ moves ∙ (λ z. moved (state z) g (waits z) (sent z));
-      queue = omega (arith, ap (λ (y : NodeState). y.queue) next, ap (λ (y : Ramp). y.queue_limit) ramp);
-    }
 
 -- ---- 8, 9 and 10, as the last call has them
 

@@ -3,21 +3,16 @@ use Prim.Native.Nat.{ℕ, ◌+◌, ◌*◌, ◌≤◌, ◌<◌}
 use mathlib.Core.List.{List}
 use mathlib.Core.Path.{◌≡◌, refl, sym, ap, ap₂, subst, ◌∙◌}
 use native.Mathlib.Numerals.{add-one}
-use native.Mathlib.Omega.{arith}
 use lib.ListN.{set}
 use Rattle.tables.specs.Grid.{row_words}
-use Rattle.tables.proofs.Grid.{Placed, placed_begun, placed_two, placed_ended}
+use Rattle.tables.proofs.Grid.{Placed, placed_two, placed_ended}
 use Rattle.road.specs.declared.Link as declared
 use Rattle.road.specs.Corridor.{Link}
 use Rattle.road.specs.Values.{link_of}
 use Rattle.settings.specs.declared.Setting.{Setting}
 use Rattle.settings.specs.Setting.{rate_in, limit_in}
 use Rattle.lists.specs.Words.{node_at}
-use Rattle.lists.specs.Fits.{RowFits}
 use Rattle.convert_rows.specs.Rows.{setting_in, setting_word, plan_row}
-
-pub settings_begun : (width : ℕ) (corridor demand : List ℕ) (downstream : ℕ) (row : List ℕ) (links : ℕ) (d : List ℕ) → RowFits 2 d links → Placed 2 0 (links + 1) (setting_word width corridor demand downstream row) d d
-settings_begun width corridor demand downstream row links d e = placed_begun 2 (links + 1) (setting_word width corridor demand downstream row) d (omega arith)
 
 -- one more node's words are stored: s is its setting and l its link, as calls gave them
 pub setting_more : (width : ℕ) (corridor demand : List ℕ) (downstream : ℕ) (row : List ℕ) (i links : ℕ) (d out out' : List ℕ) (s : Setting) (l : declared.Link)

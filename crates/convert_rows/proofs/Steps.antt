@@ -1,16 +1,17 @@
 -- Laws of a step's check on its rows, in the shape of what the code asks and returns.
-use Prim.Native.Nat.{ℕ, ◌+◌, ◌*◌, ◌≤◌, ◌<◌}
-use mathlib.Core.Bool.{Bool, false}
+use Prim.Native.Nat.{ℕ, suc, ◌+◌, ◌*◌, ◌≤◌, ◌<◌}
 use mathlib.Core.List.{List}
 use mathlib.Core.Path.{◌≡◌, refl, sym, ap, ap₂, ◌∙◌}
 use native.Mathlib.Numerals.{add-one}
 use native.Mathlib.Omega.{arith}
 use lib.ListN.{get_or}
-use Rattle.tables.specs.declared.Answer.{Answer}
-use Rattle.tables.specs.Answer.{is_refused, refusal}
-use Rattle.tables.proofs.Answers.{told_accepted, refusal_accepts}
-use Rattle.tables.proofs.First.{Passed, passed_begun, passed_told}
-use Rattle.road.specs.declared.Exit.{Exit}
+use Rattle.std.specs.Prelude.{Option}
+use Rattle.tables.specs.Answer.{Answer}
+use Rattle.tables.specs.Answer.{Accepted, refusal}
+use Rattle.tables.specs.First.{first_node}
+use Rattle.tables.proofs.Answers.{Refuses, refusal_accepts}
+use Rattle.tables.proofs.First.{Passed, passed_begun, passed_told, nodes_stop}
+use Rattle.road.specs.declared.Units.{Units}
 use Rattle.road.specs.declared.Junction as junctions
 use Rattle.road.specs.declared.NodeState as states
 use Rattle.road.specs.declared.Flows as flows
@@ -60,7 +61,8 @@ module _ (width : ℕ) (corridor demand row : List ℕ) (links : ℕ) (rows : Ro
         (omega arith, omega arith)
 
 -- v is the number as the code has it, g what the link gains, x the arrivals, x' what is said of the exit, s the state after the step
-pub step_number_is : (width : ℕ) (corridor demand row after : List ℕ) (downstream i v g x : ℕ) (a : junctions.Junction) (f : flows.Flows) (x' : Exit) (s : states.NodeState)
+pub step_number_is : (width : ℕ) (corridor demand row after : List ℕ) (downstream i v g x : ℕ) (a : junctions.Junction) (f : flows.Flows)
+    (x' : Option Units) (s : states.NodeState)
     → v ≡ step_fault (junction_of a) (flows_of f) x' (moved (state_of a.state) g x (flows_of f)) (state_of s)
     → junction_of a ≡ junction (step_road corridor demand downstream) 0 (state_in width row) i → flows_of f ≡ flows_in width row i → x' ≡ exit_in width row i
     → g ≡ inflow (step_road corridor demand downstream) 0 (flows_in width row) i → x ≡ get_or demand (i * 2 + 0) 0 → state_of s ≡ state_in width after i
@@ -93,18 +95,24 @@ pub record Stepping (width i links k : ℕ) (corridor demand : List ℕ) (downst
 pub stepping_begun : (width links k : ℕ) (corridor demand : List ℕ) (downstream : ℕ) (row after : List ℕ) → Stepping width 0 links k corridor demand downstream row after 0
 stepping_begun width links k corridor demand downstream row after = record { passed = passed_begun _ _; gaining = gaining_begun _ _ }
 
--- a is the answer of node i, t what its test answered, and x what it passes on
-pub stepping_more : (width i links k : ℕ) (corridor demand : List ℕ) (downstream : ℕ) (row after : List ℕ) (g x : ℕ) (a : Answer) (t : Bool)
+-- a is the answer of node i, and x what it passes on
+pub stepping_more : (width i links k : ℕ) (corridor demand : List ℕ) (downstream : ℕ) (row after : List ℕ) (g x : ℕ) (a : Answer)
     → Stepping width i links k corridor demand downstream row after g → i < links + 1
-    → a ≡ refusal (step_fault_in width corridor demand downstream row after i) k i → t ≡ is_refused a → t ≡ false
+    → a ≡ refusal (step_fault_in width corridor demand downstream row after i) k i → a ≡ Accepted
     → x ≡ outflow (flows_in width row i) (get_or demand (i * 2 + 1) 0) → x ≤ 134283264
     → Stepping width (i + 1) links k corridor demand downstream row after x
 unfolding step_road
-stepping_more width i links k corridor demand downstream row after g x a t s h e q f p b =
+stepping_more width i links k corridor demand downstream row after g x a s h e f p b =
     record {
-      passed = passed_told _ _ _ a s.passed h e (told_accepted a t q f);
+      passed = passed_told _ _ _ a s.passed h e f;
       gaining = gaining_more (step_road corridor demand downstream) (flows_in width row) i x p b;
     }
+
+pub stepping_stop : (width i links k : ℕ) (corridor demand : List ℕ) (downstream : ℕ) (row after : List ℕ) (g : ℕ) (a : Answer)
+    → Stepping width i links k corridor demand downstream row after g → i < links + 1
+    → a ≡ refusal (step_fault_in width corridor demand downstream row after i) k i → Refuses a
+    → a ≡ first_node (suc links) k (step_fault_in width corridor demand downstream row after)
+stepping_stop width i links k corridor demand downstream row after g a s h e r = nodes_stop _ _ _ a s.passed h e r
 
 -- where the flows are permitted no more leaves a link and a ramp than is there
 pub permitted_held : (a : Junction) (f : Flows) → Permitted a f → a.link.full_speed ≤ 65536 → (f.main ≤ a.state.vehicles) × (f.ramp ≤ a.state.queue)
@@ -120,21 +128,19 @@ pub held_passes : (width : ℕ) (corridor demand row : List ℕ) (i : ℕ) → N
 held_passes width corridor demand row i kept held = (kept.split, omega (arith, held.0, held.1, kept.vehicles, kept.queue))
 
 -- and so of a node with no fault
-pub passes_on : (width : ℕ) (corridor demand : List ℕ) (downstream : ℕ) (row after : List ℕ) (links i k : ℕ) (a : Answer) (t : Bool) → RowsKept width corridor demand row links → i < links + 1
-    → a ≡ refusal (step_fault_in width corridor demand downstream row after i) k i → t ≡ is_refused a → t ≡ false
+pub passes_on : (width : ℕ) (corridor demand : List ℕ) (downstream : ℕ) (row after : List ℕ) (links i k : ℕ) (a : Answer)
+    → RowsKept width corridor demand row links → i < links + 1
+    → a ≡ refusal (step_fault_in width corridor demand downstream row after i) k i → a ≡ Accepted
     → (get_or demand (i * 2 + 1) 0 ≤ 65536) × ((flows_in width row i).main + (flows_in width row i).ramp ≤ 134283264)
 unfolding step_fault_in junction step_road
-passes_on width corridor demand downstream row after links i k a t rows h e q f =
+passes_on width corridor demand downstream row after links i k a rows h e f =
     let kept : NodeKept width corridor demand row i = rows.kept i (omega arith) in
-    let none = (refusal_accepts (step_fault_in width corridor demand downstream row after i) k i).0 (sym e ∙ told_accepted a t q f) in
+    let none = (refusal_accepts (step_fault_in width corridor demand downstream row after i) k i).0 (sym e ∙ f) in
     let permitted = ((step_iff (junction (step_road corridor demand downstream) 0 (state_in width row) i) (flows_in width row i) (exit_in width row i) _ (state_in width after i)).0 none).0.permitted in
     held_passes width corridor demand row i kept (permitted_held _ _ permitted kept.full_speed)
 
 -- f and b are a node's flows and split as the code has them
 module _ (width : ℕ) (demand row : List ℕ) (i b : ℕ) (f : flows.Flows) (q : flows_of f ≡ flows_in width row i) (e : b ≡ get_or demand (i * 2 + 1) 0) where
-  pub outflow_asks : (get_or demand (i * 2 + 1) 0 ≤ 65536) × ((flows_in width row i).main + (flows_in width row i).ramp ≤ 134283264) → (b ≤ 65536) × (f.main.0 + f.ramp.0 ≤ 4294967295)
-  outflow_asks (s, t) = (omega arith, omega (arith, ap (λ (x : Flows). x.main) q, ap (λ (x : Flows). x.ramp) q))
-
   pub outflow_is : (r : ℕ) → (flows_in width row i).main + (flows_in width row i).ramp ≤ 134283264 → r ≡ outflow (flows_of f) b
       → (r ≡ outflow (flows_in width row i) (get_or demand (i * 2 + 1) 0)) × (r ≤ 134283264)
   unfolding outflow
@@ -145,7 +151,7 @@ module _ (width : ℕ) (demand row : List ℕ) (i b : ℕ) (f : flows.Flows) (q 
 -- ---- one node, by value
 
 -- v is the number of refusal 7 as the code has it
-pub fixed_number_is : (width : ℕ) (corridor row : List ℕ) (links steps k i v : ℕ) (t s : states.NodeState) (f : flows.Flows) (x : Exit)
+pub fixed_number_is : (width : ℕ) (corridor row : List ℕ) (links steps k i v : ℕ) (t s : states.NodeState) (f : flows.Flows) (x : Option Units)
     → ((road : Road) → links ≡ road.links → steps ≡ road.steps → state_of t ≡ (road.node i).start → v ≡ fixed_fault road k i (state_of s) (flows_of f) x)
     → state_of t ≡ (node_at corridor i).start → state_of s ≡ state_in width row i → flows_of f ≡ flows_in width row i → x ≡ exit_in width row i → v ≡ fixed_fault_in width corridor links steps k row i
 unfolding bare_road

@@ -1,4 +1,4 @@
 // The first refusal of a row, and the row of the plan.
 pub mod plans;
-pub mod quick;
 pub mod rows;
+pub mod step;

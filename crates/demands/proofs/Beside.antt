@@ -9,7 +9,7 @@ use lib.ListN.{length}
 use lib.Dec.{leb, eqb}
 use borrow.Author.Tests.{eq-eqb, leb-false, lt-leb}
 use Rattle.tables.specs.Answer.{sized}
-use Rattle.tables.specs.declared.Answer.TheVariants.{Accepted, Refused}
+use Rattle.tables.specs.Answer.{Accepted, Refused}
 use Rattle.tables.specs.First.{first_place}
 use Rattle.tables.proofs.Answers.{or_else_accepts, unless_some, sized_iff}
 use Rattle.tables.proofs.First.{FirstFault, first_place_refuses, first_place_same}

@@ -8,8 +8,8 @@ use native.Mathlib.Omega.{arith}
 use lib.Dec.{eqb}
 use lib.ListN.{length, get_or, replicate, length-append, length-replicate, get_or-replicate, get_or-append, get_or-eq_default}
 use lib.Seq.{get_or-append-add}
-use Rattle.tables.specs.declared.Answer.{Answer}
-use Rattle.tables.specs.declared.Answer.TheVariants.{Accepted}
+use Rattle.tables.specs.Answer.{Answer}
+use Rattle.tables.specs.Answer.{Accepted}
 use Rattle.tables.specs.Answer.{or_else, sized}
 use Rattle.tables.proofs.Numbers.{le_or_lt}
 use Rattle.lists.specs.Words.{links_of, steps_of, demands_length, downstream_length, free}

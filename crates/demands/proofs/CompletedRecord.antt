@@ -9,7 +9,7 @@ use native.Mathlib.Omega.{arith}
 use borrow.Author.Tests.{lt-ltb, le-ltb, eq-eqb}
 use lib.Dec.{ltb, leb, eqb}
 use lib.ListN.{length, get_or, length-append}
-use Rattle.tables.specs.declared.Answer.{Answer}
+use Rattle.tables.specs.Answer.{Answer}
 use Rattle.tables.specs.Answer.{or_else, refusal, sized, left}
 use Rattle.tables.specs.Grid.{grid, place}
 use Rattle.tables.proofs.Answers.{left_same}
@@ -17,7 +17,7 @@ use Rattle.tables.proofs.First.{first_place_same}
 use Rattle.tables.proofs.Grid.{grid_length, before_rest, at_rest, each_with_rest}
 use Rattle.tables.proofs.Numbers.{le_or_lt}
 use Rattle.tables.proofs.Tests.{and_iff}
-use Rattle.road.specs.declared.Exit.TheVariants.{Unsaid}
+use Rattle.std.specs.Prelude.{None}
 use Rattle.road.specs.Corridor.{Road, Trace, nodes}
 use Rattle.road.specs.Step.{exit}
 use Rattle.road.specs.Run.{junction, next}
@@ -132,7 +132,7 @@ module _ (road : Road) (words : List ℕ) where
   unfolding exit_said completed_record_word
   full_says k i flow hk hi e = eq-eqb _ flow (full_at k i 4 hk hi (omega arith) ∙ e)
 
-  says_none : (k i : ℕ) → exits_of 4 road words k i ≡ Unsaid
+  says_none : (k i : ℕ) → exits_of 4 road words k i ≡ None
   unfolding exit_said
   says_none k i = refl
 

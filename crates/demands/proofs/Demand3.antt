@@ -2,7 +2,7 @@
 use mathlib.Core.List.{List}
 use lib.ListN.{length}
 use mathlib.Core.Path.{◌≡◌, refl, sym, ap, ◌∙◌}
-use Rattle.tables.specs.declared.Answer.TheVariants.{Accepted}
+use Rattle.tables.specs.Answer.{Accepted}
 use Rattle.lists.specs.Words.{links_of, steps_of}
 use Rattle.lengths.specs.Lengths.{record_sized}
 use Rattle.list_scans.specs.Refusals.{limits}

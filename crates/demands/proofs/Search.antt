@@ -8,8 +8,8 @@ use native.Mathlib.Omega.{arith}
 use borrow.Author.Tests.{lt-ltb, le-ltb, le-leb, lt-leb, eqb-true}
 use lib.Dec.{ltb, leb, eqb}
 use lib.ListN.{length}
-use Rattle.tables.specs.declared.Answer.{Answer}
-use Rattle.tables.specs.declared.Answer.TheVariants.{Accepted, Refused}
+use Rattle.tables.specs.Answer.{Answer}
+use Rattle.tables.specs.Answer.{Accepted, Refused}
 use Rattle.tables.specs.Answer.{or_else, sized}
 use Rattle.tables.specs.Halving.{ceil_log}
 use Rattle.tables.proofs.Answers.{left_accepted, or_else_accepts, sized_iff}
@@ -18,8 +18,8 @@ use Rattle.tables.proofs.Tests.{and_iff}
 use Rattle.road.specs.Corridor.{Flows}
 use Rattle.road.specs.Step.{Junction}
 use Rattle.road.specs.Run.{junction}
-use Rattle.settings.specs.declared.Found.{Found}
-use Rattle.settings.specs.declared.Found.TheVariants.{Rate, Nothing}
+use Rattle.std.specs.Prelude.{Option, Some, None}
+use Rattle.road.specs.declared.Units.{Units}
 use Rattle.settings.specs.Rate.{full_flows, search}
 use Rattle.settings.specs.Share.{Gives, Finds, IsFull, IsHeld, IsSetting}
 use Rattle.settings.proofs.Rates.{rate_finds, search_found}
@@ -80,21 +80,21 @@ within corridor demands words e =
     let s = ((and_iff (sizes corridor demands) _).0 ((sized_iff _).0 fit)).0 in
     (or_else_accepts (sized (sizes corridor demands)) (ranges (road_of corridor demands))).1 ((sized_iff (sizes corridor demands)).1 s, ((or_else_accepts (ranges (road_of corridor demands)) _).0 rest).0)
 
-not_found : (c : ℕ) → Nothing ≡ Rate (record { 0 = c }) → ⊥
+not_found : (c : ℕ) → ◌≡◌ {A = Option Units} None (Some (record { 0 = c })) → ⊥
 not_found c e = let z : ◌≡◌ {A = ℕ} 0 1 = ap found_word e in absurd (omega arith)
 
 -- ---- at one node: what is found, and the setting that document 01 names
 
 module _ (junction : Junction) (wanted : Flows) where
   pub found_finds : Finds junction wanted (search junction wanted).found
-  found_finds = subst (λ (x : Found). Finds junction wanted x) (sym (search_found junction wanted)) (rate_finds junction wanted)
+  found_finds = subst (λ (x : Option Units). Finds junction wanted x) (sym (search_found junction wanted)) (rate_finds junction wanted)
 
   module _ (rate limit : ℕ) (named : IsSetting junction wanted rate limit) (full_speed_lem : (limit ≡ junction.link.full_speed) ↔ ((c : ℕ) × (c ≤ junction.ramp.capacity) × Gives junction wanted c)) where
     -- by what is found
-    full_by : (found : Found) → Finds junction wanted found → (c : ℕ) → (found ≡ Rate (record { 0 = c })) ↔ ((limit ≡ junction.link.full_speed) × (rate ≡ c))
-    full_by (Rate x) h c = (
-      λ e. let q : x.0 ≡ c = ap (λ (f : Found). rate_word f) e in let (p, r) = posted in (p, r ∙ q),
-      λ (p, r). let q : x.0 ≡ c = sym posted.1 ∙ r in λ z. Rate (record { 0 = q z }),
+    full_by : (found : Option Units) → Finds junction wanted found → (c : ℕ) → (found ≡ Some (record { 0 = c })) ↔ ((limit ≡ junction.link.full_speed) × (rate ≡ c))
+    full_by (Some x) h c = (
+      λ e. let q : x.0 ≡ c = ap (λ (f : Option Units). rate_word f) e in let (p, r) = posted in (p, r ∙ q),
+      λ (p, r). let q : x.0 ≡ c = sym posted.1 ∙ r in λ z. Some (record { 0 = q z }),
     )
       where
         posted : (limit ≡ junction.link.full_speed) × (rate ≡ x.0)
@@ -103,14 +103,14 @@ module _ (junction : Junction) (wanted : Flows) where
             (λ (f : IsFull junction wanted rate limit). (f.posted, omega (arith, f.smallest.least x.0 h.gives, h.least rate f.smallest.gives)))
             (λ (g : IsHeld junction wanted rate limit). absurd (g.none x.0 h.within h.gives))
             named
-    full_by Nothing h c = (λ e. absurd (not_found c e), λ (p, r). let (d, b, g) = full_speed_lem.0 p in absurd (h d b g))
+    full_by None h c = (λ e. absurd (not_found c e), λ (p, r). let (d, b, g) = full_speed_lem.0 p in absurd (h d b g))
 
     bounded : limit ≤ junction.link.full_speed
     bounded = ⊎_elim (λ (f : IsFull junction wanted rate limit). omega (arith, f.posted)) (λ (g : IsHeld junction wanted rate limit). g.within) named
 
-    none_by : (found : Found) → Finds junction wanted found → (found ≡ Nothing) ↔ (limit < junction.link.full_speed)
-    none_by (Rate x) h = (λ e. absurd (not_found x.0 (sym e)), λ l. absurd (let p = full_speed_lem.1 (x.0, h.within, h.gives) in omega arith))
-    none_by Nothing h = (
+    none_by : (found : Option Units) → Finds junction wanted found → (found ≡ None) ↔ (limit < junction.link.full_speed)
+    none_by (Some x) h = (λ e. absurd (not_found x.0 (sym e)), λ l. absurd (let p = full_speed_lem.1 (x.0, h.within, h.gives) in omega arith))
+    none_by None h = (
       λ e. ⊎_elim (λ (l : junction.link.full_speed ≤ limit). let (d, c, g) = full_speed_lem.0 (omega (arith, bounded)) in absurd (h d c g)) (λ (l : limit < junction.link.full_speed). l) (le_or_lt junction.link.full_speed limit),
       λ l. refl,
     )

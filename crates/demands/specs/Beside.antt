@@ -1,7 +1,7 @@
 -- Beside demand 3, for a corridor and demands within limits: what document 01 says of simulator, checker and normal form, of the one
 -- setting that it names, and of the numbers in a record.
 use Rattle.std.specs.Prelude.{ℕ, suc, ◌≤◌, ◌<◌, true, List, ◌≡◌, ◌↔◌, length, get_or, leb}
-use Rattle.tables.specs.declared.Answer.TheVariants.{Accepted, Refused}
+use Rattle.tables.specs.Answer.{Accepted, Refused}
 use Rattle.tables.specs.Answer.{unless}
 use Rattle.tables.specs.First.{first_place}
 use Rattle.road.specs.Corridor.{Flows}

@@ -1,6 +1,6 @@
 -- Cases 1 to 10 of B, worked through in document 01, read as definitions.
 use Rattle.std.specs.Prelude.{ℕ, ◌+◌, List, [], ◌∷◌, ◌≡◌, length}
-use Rattle.tables.specs.declared.Answer.TheVariants.{Accepted, Refused}
+use Rattle.tables.specs.Answer.{Accepted, Refused}
 use Rattle.road.specs.Step.{sending, through, offer, receiving, flows_with}
 use Rattle.settings.specs.Setting.{setting_for}
 use Rattle.settings.specs.Cases.{link, ramp, node_one, node_nine, flows, full, held}

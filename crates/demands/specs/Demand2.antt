@@ -1,7 +1,7 @@
 -- Demand 2 in its own words: the simulator's record, and block files.
 use Rattle.std.specs.Prelude.{ℕ, ◌≤◌, ◌<◌, ◌+◌, ◌-◌, ◌*◌, ◌%◌, ◌/◌, ◌≢◌, List, ◌≡◌, length, get_or}
-use Rattle.tables.specs.declared.Answer.{Answer}
-use Rattle.tables.specs.declared.Answer.TheVariants.{Accepted, Refused}
+use Rattle.tables.specs.Answer.{Answer}
+use Rattle.tables.specs.Answer.{Accepted, Refused}
 use Rattle.tables.specs.Grid.{place}
 use Rattle.road.specs.Corridor.{Road, Plan, nodes}
 use Rattle.road.specs.Step.{exit, through}

@@ -1,7 +1,7 @@
 -- Demand 3 in its own words, over lists of words. Records are of kind 3 or of kind 7, and those that are compared of one kind: `width` is how many
 -- words a node has in them, and of a proposed list its length tells it.
 use Rattle.std.specs.Prelude.{ℕ, ◌≤◌, ◌<◌, List, ◌≡◌, ◌↔◌, length}
-use Rattle.tables.specs.declared.Answer.TheVariants.{Accepted}
+use Rattle.tables.specs.Answer.{Accepted}
 use Rattle.road.specs.Corridor.{Flows}
 use Rattle.road.specs.Step.{Junction}
 use Rattle.road.specs.Run.{junction}

@@ -1,6 +1,6 @@
 -- Request 01 on corridor B, by computation: 70 units may leave link 2, which sends 100.
 use Rattle.std.specs.Prelude.{ℕ, List, [], ◌∷◌, ◌≡◌}
-use Rattle.tables.specs.declared.Answer.TheVariants.{Accepted, Refused}
+use Rattle.tables.specs.Answer.{Accepted, Refused}
 use Rattle.list_scans.specs.Refusals.{limits}
 use Rattle.simulate.specs.B.{corridor, demands, plan, record_1}
 use Rattle.simulate.specs.Simulate.{simulate_answer, simulated}

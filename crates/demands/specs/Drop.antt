@@ -1,6 +1,6 @@
 -- Request 07: what the drop does and does not change, and worked cases by computation.
 use Rattle.std.specs.Prelude.{ℕ, ◌*◌, ◌/◌, ◌≤◌, ◌<◌, min, List, [], ◌∷◌, ◌≡◌}
-use Rattle.tables.specs.declared.Answer.TheVariants.{Accepted, Refused}
+use Rattle.tables.specs.Answer.{Accepted, Refused}
 use Rattle.road.specs.Corridor.{Link}
 use Rattle.road.specs.Step.{sending, receiving}
 use Rattle.list_scans.specs.Refusals.{limits}

@@ -1,6 +1,6 @@
 -- Request 04 beside the demands: what the exits of a record of kind 7 are, and that the kind of the work record has no part in a normal form.
 use Rattle.std.specs.Prelude.{ℕ, ◌≤◌, ◌<◌, ◌-◌, true, List, [], ◌∷◌, ◌≡◌, length}
-use Rattle.tables.specs.declared.Answer.TheVariants.{Accepted, Refused}
+use Rattle.tables.specs.Answer.{Accepted, Refused}
 use Rattle.road.specs.Step.{through}
 use Rattle.lists.specs.Words.{links_of, steps_of, road_of, Width, width_of}
 use Rattle.lengths.specs.Lengths.{record_sized}

@@ -1,8 +1,7 @@
 -- Request 02 over lists of words: what the search's call refuses, what it finds at a node and step of an accepted record, and how many rates it tries.
-use Rattle.std.specs.Prelude.{ℕ, ◌+◌, ◌≤◌, ◌<◌, List, [], ◌∷◌, ◌≡◌, ◌↔◌, ◌⊎◌, ◌≢◌, length}
-use Rattle.tables.specs.declared.Answer.TheVariants.{Accepted, Refused}
+use Rattle.std.specs.Prelude.{ℕ, ◌+◌, ◌≤◌, ◌<◌, List, [], ◌∷◌, ◌≡◌, ◌↔◌, ◌⊎◌, ◌≢◌, length, Some, None}
+use Rattle.tables.specs.Answer.{Accepted, Refused}
 use Rattle.tables.specs.Halving.{ceil_log}
-use Rattle.settings.specs.declared.Found.TheVariants.{Rate, Nothing}
 use Rattle.settings.specs.declared.Search.{Search}
 use Rattle.settings.specs.Rate.{search}
 use Rattle.settings.specs.Share.{Gives, Finds}
@@ -35,10 +34,10 @@ pub record SearchedAt (corridor demands words : List ℕ) (k i : ℕ) : Type 0 w
   pub finds : Finds (recorded corridor demands words k i) (recorded_flows corridor demands words k i) (search_of corridor demands words k i).found
   -- so the converter's plan posts full speed at just that rate, and a lower limit just where there is none
   pub full_where_found : (rate : ℕ)
-      → ((search_of corridor demands words k i).found ≡ Rate (record { 0 = rate }))
+      → ((search_of corridor demands words k i).found ≡ Some (record { 0 = rate }))
       ↔ ((limit_at corridor demands (converted corridor demands words) k i ≡ ((road_of corridor demands).node i).link.full_speed)
       × (rate_at corridor demands (converted corridor demands words) k i ≡ rate))
-  pub held_where_none : ((search_of corridor demands words k i).found ≡ Nothing)
+  pub held_where_none : ((search_of corridor demands words k i).found ≡ None)
       ↔ (limit_at corridor demands (converted corridor demands words) k i < ((road_of corridor demands).node i).link.full_speed)
   -- "It returns the number of tries, at most 18": 1 + log2 (C + 1), rounded up; 18 only at C = 65,536, and 1 where C is 0
   pub tries_at_most_18 : (search_of corridor demands words k i).tries ≤ 18

@@ -1,10 +1,9 @@
 -- The corridor's file: how many words it has in either kind.
-use Prim.Native.Nat.{ℕ, ◌+◌, ◌*◌, ◌≤◌}
+use Prim.Native.Nat.{ℕ}
 use mathlib.Core.Bool.{Bool, true, false, cond}
 use mathlib.Core.List.{List}
 use mathlib.Core.Logic.{inl, inr}
-use mathlib.Core.Path.{◌≡◌, refl, ap}
-use native.Mathlib.Omega.{arith}
+use mathlib.Core.Path.{◌≡◌, refl}
 use lib.Dec.{eqb}
 use Rattle.lists.specs.Words.{corridor_length}
 use Rattle.lengths.proofs.Sizes.{CorridorSized}
@@ -33,15 +32,3 @@ corridor_sized_lem n file = by (says_later Corridor file)
 pub corridor_own : (n k : ℕ) (file : List ℕ) → own_agrees (file_kind Corridor file) n k (payload_word file 0) ≡ eqb (payload_word file 0) n
 unfolding own_agrees later
 corridor_own n k file = of_either (λ kind. own_agrees kind n k (payload_word file 0) ≡ eqb (payload_word file 0) n) Corridor file refl refl
-
--- ---- as the code counts them: `has` is whether the file says that it is of kind 10
-
-module _ (n : ℕ) (file : List ℕ) (has : Bool) (e : has ≡ says_later Corridor file) where
-  count_is : corridor_length (cond has 11 9) n ≡ corridor_count n file
-  count_is = ap (λ (t : Bool). corridor_length (cond t 11 9) n) e
-
-  pub count_dropped : n ≤ 64 → has ≡ true → (1 + (n + 1) * 11 ≡ corridor_count n file) × (1 + (n + 1) * 11 ≤ 716)
-  count_dropped h t = (omega (arith, ap (λ (b : Bool). corridor_length (cond b 11 9) n) t, count_is), omega arith)
-
-  pub count_plain : n ≤ 64 → has ≡ false → (1 + (n + 1) * 9 ≡ corridor_count n file) × (1 + (n + 1) * 9 ≤ 716)
-  count_plain h t = (omega (arith, ap (λ (b : Bool). corridor_length (cond b 11 9) n) t, count_is), omega arith)

@@ -2,7 +2,7 @@
 use Prim.Native.Nat.{ℕ}
 use mathlib.Core.Bool.{Bool, true, false, cond}
 use mathlib.Core.List.{List}
-use mathlib.Core.Path.{◌≡◌, refl, ap, ◌∙◌}
+use mathlib.Core.Path.{◌≡◌, refl}
 use native.Mathlib.Omega.{arith}
 use Rattle.lists.specs.Words.{Width, record_length}
 use Rattle.block.specs.declared.Kind.TheVariants.{Record}
@@ -24,7 +24,3 @@ wide false = record { least = omega arith; most = omega arith }
 
 pub file_wide : (file : List ℕ) → Width (file_width file)
 file_wide file = wide (says_later Record file)
-
--- `has` is whether the file says that it is of kind 7, and w the width as the code has it
-pub width_said : (file : List ℕ) (has : Bool) (w : ℕ) → has ≡ says_later Record file → w ≡ cond has 5 4 → (w ≡ file_width file) × Width w
-width_said file has w e h = (h ∙ ap (λ (t : Bool). cond t 5 4) e, rw h (wide has))

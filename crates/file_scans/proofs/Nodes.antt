@@ -1,40 +1,30 @@
 -- One node's words unpacked out of a record's file: they say what the whole row of its state says of the node.
 use Prim.Native.Nat.{ℕ, suc, ◌+◌, ◌*◌, ◌≤◌, ◌<◌}
+use Rattle.std.specs.Prelude.{Option}
 use mathlib.Core.List.{List}
 use mathlib.Core.Logic.{⊎_elim}
-use mathlib.Core.Path.{◌≡◌, refl, sym, ap, ap₂, subst, ◌∙◌}
+use mathlib.Core.Path.{◌≡◌, refl, sym, ap, subst, ◌∙◌}
 use native.Mathlib.Nat.{zero-mul, zero-add, add_assoc}
-use native.Mathlib.Numerals.{add-one}
 use native.Mathlib.Omega.{arith}
-use lib.ListN.{length, get_or}
+use lib.ListN.{get_or}
 use Rattle.tables.proofs.Numbers.{le_or_lt, row_fits_lem}
-use Rattle.tables.proofs.Tabulate.{tabulate_length, tabulate_at}
-use Rattle.road.specs.declared.Exit.{Exit}
+use Rattle.tables.proofs.Tabulate.{tabulate_at}
+use Rattle.road.specs.declared.Units.{Units}
 use Rattle.road.specs.declared.NodeState as states
 use Rattle.road.specs.declared.Flows as flows
 use Rattle.road.specs.Corridor.{Road}
 use Rattle.road.specs.Values.{state_of, flows_of}
 use Rattle.road.proofs.Rules.{state_eq, flows_eq}
 use Rattle.record_faults.specs.Records.{fixed_fault}
-use Rattle.lists.specs.Words.{node_at, Width, exit_said, record_length}
+use Rattle.lists.specs.Words.{node_at, Width, exit_said}
 use Rattle.lists.specs.Rows.{state_in, flows_in, exit_in}
 use Rattle.convert_rows.specs.Rows.{fixed_fault_in}
 use Rattle.convert_rows.proofs.Steps.{fixed_number_is}
-use Rattle.payload.specs.File.{blocks_for, payload_word, payload_part}
-use Rattle.file_rows.specs.Rows.{Holds, state_row_in}
-use Rattle.file_rows.proofs.Rows.{unpacked}
+use Rattle.payload.specs.File.{payload_word, payload_part}
+use Rattle.file_rows.specs.Rows.{state_row_in}
 
--- at is where the state's row begins, w how many words it has, and here where the node's begin in it
-pub node_holds : (width links steps at w here n : ℕ) (file : List ℕ) → at + w ≤ (steps + 1) * w → w ≡ suc links * width → here + width ≤ (links + 1) * width → n ≡ width
-    → Holds (record_length width links steps) file → blocks_for (at + here + n) * 512 ≤ length file
-node_holds width links steps at w here n file h q p c e = omega (arith, ap (λ (x : ℕ). (steps + 1) * x) q, ap (λ (x : ℕ). x * width) (add-one links))
-
-pub node_unpacked : (width links k i at w here n : ℕ) (file node : List ℕ) → node ≡ payload_part (at + here) n file → at ≡ k * w → w ≡ suc links * width → here ≡ i * width → n ≡ width
-    → node ≡ payload_part (k * (suc links * width) + i * width) width file
-node_unpacked width links k i at w here n file node told e q p c =
-    unpacked (at + here) n (k * (suc links * width) + i * width) width file node told (ap₂ (λ (x y : ℕ). x + y) (e ∙ ap (λ (x : ℕ). k * x) q) p) c
-
-module _ (width : ℕ) (wide : Width width) (links k i : ℕ) (file node : List ℕ) (told : node ≡ payload_part (k * (suc links * width) + i * width) width file) (h : i ≤ links) where
+module _ (width : ℕ) (wide : Width width) (links k i : ℕ) (file node : List ℕ)
+    (told : node ≡ payload_part (k * (suc links * width) + i * width) width file) (h : i ≤ links) where
   word : (q : ℕ) → q < width → get_or node (0 * width + q) 0 ≡ get_or (state_row_in width links file k) (i * width + q) 0
   word q b =
       ap (λ (x : List ℕ). get_or x (0 * width + q) 0) told
@@ -42,11 +32,8 @@ module _ (width : ℕ) (wide : Width width) (links k i : ℕ) (file node : List 
       ∙ ap (λ (x : ℕ). get_or (payload_part (k * (suc links * width) + i * width) width file) x 0) (zero-add q)
       ∙ tabulate_at width (λ j. payload_word file (k * (suc links * width) + i * width + j)) q 0 b
       ∙ ap (payload_word file) (add_assoc (k * (suc links * width)) (i * width) q)
-      ∙ sym (tabulate_at (suc links * width) (λ j. payload_word file (k * (suc links * width) + j)) (i * width + q) 0 (omega (arith, row_fits_lem i (suc links) width (omega arith))))
-
-  -- and they are one node's
-  pub node_length : 0 * width + width ≤ length node
-  node_length = omega (arith, ap length told, tabulate_length width (λ j. payload_word file (k * (suc links * width) + i * width + j)), zero-mul width)
+      ∙ sym (tabulate_at (suc links * width) (λ j. payload_word file (k * (suc links * width) + j)) (i * width + q) 0
+      (omega (arith, row_fits_lem i (suc links) width (omega arith))))
 
   node_state : state_in width node 0 ≡ state_in width (state_row_in width links file k) i
   unfolding state_in
@@ -66,7 +53,7 @@ module _ (width : ℕ) (wide : Width width) (links k i : ℕ) (file node : List 
       (le_or_lt 5 width)
 
   -- v is the number of refusal 7 as the code has it
-  pub fixed_node_is : (corridor : List ℕ) (steps v : ℕ) (t s : states.NodeState) (f : flows.Flows) (x : Exit)
+  pub fixed_node_is : (corridor : List ℕ) (steps v : ℕ) (t s : states.NodeState) (f : flows.Flows) (x : Option Units)
       → ((road : Road) → links ≡ road.links → steps ≡ road.steps → state_of t ≡ (road.node i).start → v ≡ fixed_fault road k i (state_of s) (flows_of f) x)
       → state_of t ≡ (node_at corridor i).start → state_of s ≡ state_in width node 0 → flows_of f ≡ flows_in width node 0 → x ≡ exit_in width node 0
       → v ≡ fixed_fault_in width corridor links steps k (state_row_in width links file k) i

@@ -2,14 +2,14 @@
 use Prim.Native.Nat.{ℕ, ◌*◌}
 use mathlib.Core.Bool.{Bool, true, false, ◌&&◌}
 use mathlib.Core.List.{List}
-use mathlib.Core.Path.{◌≡◌, refl, sym, ap, subst, ◌∙◌}
+use mathlib.Core.Path.{◌≡◌, refl, sym, ap, ap₂, subst, ◌∙◌}
 use borrow.Author.Tests.{eqb-true}
 use lib.Dec.{eqb}
 use lib.ListN.{length}
-use Rattle.tables.specs.declared.Answer.{Answer}
-use Rattle.tables.specs.declared.Answer.TheVariants.{Accepted}
+use Rattle.tables.specs.Answer.{Answer}
+use Rattle.tables.specs.Answer.{Accepted}
 use Rattle.tables.specs.Answer.{or_else, sized}
-use Rattle.tables.proofs.Answers.{Refuses, or_else_accepts, or_else_stop, or_else_next, left_refused, left_accepted, sized_iff}
+use Rattle.tables.proofs.Answers.{Refuses, or_else_accepts, or_else_stop, or_else_next, left_refused, left_accepted, sized_iff, sized_refuses}
 use Rattle.tables.proofs.Tests.{and_iff}
 use Rattle.lists.specs.Words.{road_of, plan_length, width_of}
 use Rattle.list_scans.specs.Refusals.{ranges}
@@ -18,10 +18,10 @@ use Rattle.convert.specs.Convert.{check_answer}
 use Rattle.convert.proofs.Answers.{check_rest, record_test}
 use Rattle.payload.specs.File.{blocks_for, payload_word}
 use Rattle.block.specs.declared.Kind.{Kind}
-use Rattle.block.specs.declared.Kind.TheVariants.{Corridor, Demands, Record, Plan}
+use Rattle.block.specs.declared.Kind.TheVariants.{Corridor, Demands, Record}
 use Rattle.block.specs.Kinds.{Told, list_length, own_agrees, file_kind}
 use Rattle.block.specs.Calls.{told_fits, file_answer}
-use Rattle.block.proofs.Calls.{told_is, file_kept, file_bytes}
+use Rattle.block.proofs.Calls.{file_kept, file_bytes}
 use Rattle.file_rows.specs.Words.{corridor_in, demands_in, file_width, record_in}
 use Rattle.files.specs.Files.{files_answer, read_then_check, check_files, convert_files, plan_file, plan_written}
 use Rattle.files.specs.Fits.{FilesFit, Accepts, words_answer}
@@ -32,7 +32,8 @@ use Rattle.files.proofs.Contents.{read_sizes, read_width, read_sized}
 
 -- ---- the three files in turn: a, b and c are their answers as calls gave them, `first` what the corridor's file chose and kind what the demands' did
 
-module _ (n k : ℕ) (corridor demands recorded : List ℕ) (first : Kind) (s : first ≡ file_kind Corridor corridor) (a : Answer) (t : a ≡ file_answer first n k corridor) where
+module _ (n k : ℕ) (corridor demands recorded : List ℕ) (first : Kind) (s : first ≡ file_kind Corridor corridor) (a : Answer)
+    (t : a ≡ file_answer first n k corridor) where
   e : a ≡ file_answer (file_kind Corridor corridor) n k corridor
   e = t ∙ ap (λ (x : Kind). file_answer x n k corridor) s
 
@@ -83,13 +84,16 @@ module _ (n k : ℕ) (corridor demands recorded : List ℕ) (a : Answer) (e : a 
   unfolding read_then_check
   read_next h told b q =
       let fit = files_fit n k corridor demands recorded a told e h in
-      let kind : file_width recorded ≡ width_of (corridor_in n corridor) (demands_in n k demands) (length (record_in (file_width recorded) n k recorded)) = sym (read_width n k corridor demands recorded fit) in
+      let kind : file_width recorded ≡ width_of (corridor_in n corridor) (demands_in n k demands) (length (record_in (file_width recorded) n k recorded)) =
+      sym (read_width n k corridor demands recorded fit) in
       let words : List ℕ = record_in (file_width recorded) n k recorded in
       or_else_next a b _ _ e h
       (check_rest (corridor_in n corridor) (demands_in n k demands) words true (tests fit) (sized true) refl b refl
-      (q ∙ ap (λ (w : ℕ). or_else (ranges (road_of (corridor_in n corridor) (demands_in n k demands))) (judged w (road_of (corridor_in n corridor) (demands_in n k demands)) words)) kind))
+      (q ∙ ap (λ (w : ℕ). or_else (ranges (road_of (corridor_in n corridor) (demands_in n k demands)))
+      (judged w (road_of (corridor_in n corridor) (demands_in n k demands)) words)) kind))
     where
-      tests : FilesFit n k corridor demands recorded → true ≡ record_test (corridor_in n corridor) (demands_in n k demands) (length (record_in (file_width recorded) n k recorded))
+      tests : FilesFit n k corridor demands recorded
+          → true ≡ record_test (corridor_in n corridor) (demands_in n k demands) (length (record_in (file_width recorded) n k recorded))
       tests fit =
           sym
           ((and_iff _ _).1 (
@@ -116,61 +120,56 @@ accepts n k corridor demands recorded a told e h =
       },
     )
 
--- ---- 1 before all: t and a are what the test of N and K answered, as a test and as an answer
+-- ---- 1 before all: a is what the test of N and K answered
 
-module _ (n k : ℕ) (corridor demands recorded : List ℕ) (t : Bool) (e : t ≡ told_fits n k) (a : Answer) (q : a ≡ sized t) where
+module _ (n k : ℕ) (corridor demands recorded : List ℕ) (a : Answer) (q : a ≡ sized (told_fits n k)) where
   pub check_wrong : Refuses a → a ≡ check_files n k corridor demands recorded
   unfolding check_files
-  check_wrong r = or_else_stop a _ _ (q ∙ ap sized e) r
+  check_wrong r = or_else_stop a _ _ q r
 
-  pub check_told : a ≡ Accepted → Told n k
-  check_told h = told_is n k t e ((sized_iff t).0 (sym q ∙ h))
-
-  pub check_right : a ≡ Accepted → (b : Answer) → b ≡ read_then_check n k corridor demands recorded → b ≡ check_files n k corridor demands recorded
+  -- l and s are N and K as the code has them then
+  pub check_right : a ≡ Accepted → (l s : ℕ) → l ≡ n → s ≡ k → (b : Answer) → b ≡ read_then_check l s corridor demands recorded
+      → b ≡ check_files n k corridor demands recorded
   unfolding check_files
-  check_right h b p = or_else_next a b _ _ (q ∙ ap sized e) h p
+  check_right h l s e f b p = or_else_next a b _ _ q h (p ∙ ap₂ (λ (x y : ℕ). read_then_check x y corridor demands recorded) e f)
 
 -- with the length of the lent plan file
 abbrev pub room_fits : ℕ → ℕ → ℕ → Bool
 room_fits n k room = told_fits n k && eqb room (blocks_for (plan_length n k) * 512)
 
-pub room_wrong : (n k room : ℕ) (b : Bool) → b ≡ told_fits n k → b ≡ false → false ≡ room_fits n k room
-room_wrong n k room b e h = ap (λ (x : Bool). x && eqb room (blocks_for (plan_length n k) * 512)) (sym h ∙ e)
+-- the first of two tests, where it fails, and the second, where the first holds
+pub first_fails : (n k room : ℕ) (a : Answer) → a ≡ sized (told_fits n k) → Refuses a → a ≡ sized (room_fits n k room)
+first_fails n k room a e r =
+    let no : told_fits n k ≡ false = sized_refuses (told_fits n k) (subst Refuses e r) in
+    e ∙ ap sized (no ∙ ap (λ (x : Bool). x && eqb room (blocks_for (plan_length n k) * 512)) (sym no))
 
--- m is the plan's length and blocks their number, as the code has them
-pub room_right : (n k room m blocks : ℕ) (b : Bool) → b ≡ told_fits n k → b ≡ true → m ≡ list_length Plan n k → blocks ≡ blocks_for m
-    → eqb room (blocks * 512) ≡ room_fits n k room
-unfolding list_length
-room_right n k room m blocks b e h q p =
-    ap (λ (x : ℕ). eqb room (x * 512)) (p ∙ ap (λ (x : ℕ). blocks_for x) q)
-    ∙ ap (λ (x : Bool). x && eqb room (blocks_for (plan_length n k) * 512)) (sym h ∙ e)
+pub first_holds : (n k room l s : ℕ) (a b : Answer) → a ≡ sized (told_fits n k) → a ≡ Accepted → l ≡ n → s ≡ k
+    → b ≡ sized (eqb room (blocks_for (plan_length l s) * 512)) → b ≡ sized (room_fits n k room)
+first_holds n k room l s a b e h f g p =
+    let yes : told_fits n k ≡ true = (sized_iff (told_fits n k)).0 (sym e ∙ h) in
+    p
+    ∙ ap₂ (λ (x y : ℕ). sized (eqb room (blocks_for (plan_length x y) * 512))) f g
+    ∙ ap (λ (x : Bool). sized (x && eqb room (blocks_for (plan_length n k) * 512))) (sym yes)
 
-pub room_told : (n k room : ℕ) (t : Bool) → t ≡ room_fits n k room → t ≡ true → Told n k × (room ≡ blocks_for (plan_length n k) * 512)
-room_told n k room t e h =
-    let r = (and_iff (told_fits n k) (eqb room (blocks_for (plan_length n k) * 512))).0 (sym e ∙ h) in
-    (told_is n k _ refl r.0, eqb-true _ _ r.1)
-
-module _ (n k : ℕ) (corridor demands recorded lent : List ℕ) (t : Bool) (e : t ≡ room_fits n k (length lent)) (z : Answer) (q : z ≡ sized t) where
+-- z is what both tests answered
+module _ (n k : ℕ) (corridor demands recorded lent : List ℕ) (z : Answer) (q : z ≡ sized (room_fits n k (length lent))) where
   pub convert_wrong : Refuses z → (z ≡ convert_files n k corridor demands recorded (length lent)) × (lent ≡ plan_written n k corridor demands recorded lent)
   unfolding convert_files plan_written
   convert_wrong r =
-      let is = or_else_stop z (sized (room_fits n k (length lent))) (read_then_check n k corridor demands recorded) (q ∙ ap sized e) r in
+      let is = or_else_stop z (sized (room_fits n k (length lent))) (read_then_check n k corridor demands recorded) q r in
       (is, left_refused z _ _ lent is r)
 
-  module _ (g : z ≡ Accepted) where
-    pub convert_told : Told n k × (length lent ≡ blocks_for (plan_length n k) * 512)
-    convert_told = room_told n k (length lent) t e ((sized_iff t).0 (sym q ∙ g))
+  module _ (g : z ≡ Accepted) (l s : ℕ) (e : l ≡ n) (f : s ≡ k) (a : Answer) (p : a ≡ read_then_check l s corridor demands recorded) where
+    right : a ≡ convert_files n k corridor demands recorded (length lent)
+    unfolding convert_files
+    right = or_else_next z a _ _ q g (p ∙ ap₂ (λ (x y : ℕ). read_then_check x y corridor demands recorded) e f)
 
-    module _ (a : Answer) (p : a ≡ read_then_check n k corridor demands recorded) where
-      right : a ≡ convert_files n k corridor demands recorded (length lent)
-      unfolding convert_files
-      right = or_else_next z a _ _ (q ∙ ap sized e) g p
+    pub convert_left : Refuses a → (a ≡ convert_files n k corridor demands recorded (length lent)) × (lent ≡ plan_written n k corridor demands recorded lent)
+    unfolding plan_written
+    convert_left r = (right, left_refused a _ _ lent right r)
 
-      pub convert_left : Refuses a → (a ≡ convert_files n k corridor demands recorded (length lent)) × (lent ≡ plan_written n k corridor demands recorded lent)
-      unfolding plan_written
-      convert_left r = (right, left_refused a _ _ lent right r)
-
-      pub convert_right : a ≡ Accepted → (file : List ℕ) → file ≡ plan_file n k corridor demands recorded
-          → (a ≡ convert_files n k corridor demands recorded (length lent)) × (file ≡ plan_written n k corridor demands recorded lent)
-      unfolding plan_written
-      convert_right h file w = (right, left_accepted a _ _ lent file right h w)
+    pub convert_right : a ≡ Accepted → (file : List ℕ) → file ≡ plan_file l s corridor demands recorded
+        → (a ≡ convert_files n k corridor demands recorded (length lent)) × (file ≡ plan_written n k corridor demands recorded lent)
+    unfolding plan_written
+    convert_right h file w =
+        (right, left_accepted a _ _ lent file right h (w ∙ ap₂ (λ (x y : ℕ). plan_file x y corridor demands recorded) e f))

@@ -13,26 +13,27 @@ use Rattle.convert.specs.Convert.{converted_by}
 use Rattle.convert_rows.specs.Rows.{plan_row, setting_word}
 use Rattle.convert.specs.Rows.{Ready}
 use Rattle.convert.proofs.Settings.{PlanRows, plan_begun, plan_more, plan_ended}
-use Rattle.payload.specs.File.{blocks_for, payload_word, payload_of, payload_part, put_payload, file_of}
+use Rattle.payload.specs.File.{blocks_for, payload_word, payload_of, put_payload, file_of}
 use Rattle.payload.specs.Word.{Words}
 use Rattle.payload.proofs.Payloads.{payload_put, put_length_same}
 use Rattle.block.specs.declared.Kind.TheVariants.{Plan}
-use Rattle.block.specs.Kinds.{Told, kind_number, list_length}
-use Rattle.block.proofs.Calls.{length_high}
-use Rattle.file_rows.specs.Words.{corridor_count, corridor_in, demands_in, file_width, record_in}
+use Rattle.block.specs.Kinds.{kind_number, list_length}
+use Rattle.file_rows.specs.Words.{corridor_in, demands_in, file_width, record_in}
 use Rattle.files.specs.Files.{plan_file}
-use Rattle.file_rows.specs.Rows.{Holds, demand_row_in, downstream_in, state_row_in}
+use Rattle.file_rows.specs.Rows.{Holds, downstream_in}
 use Rattle.files.specs.Fits.{FilesFit, plan_row_in}
 use Rattle.file_scans.proofs.Rows.{demand_part, state_part}
-use Rattle.files.proofs.Contents.{corridor_read, read_width}
+use Rattle.files.proofs.Contents.{read_width}
 
 -- ---- as a loop's invariant: the first k rows stand in the file
 
 pub record PlanPut (width : ℕ) (corridor demands recorded : List ℕ) (links steps k : ℕ) (lent file : List ℕ) : Type 0 where
-  pub rows : PlanRows width corridor (demands_in links steps demands) (record_in width links steps recorded) links steps k (payload_of (plan_length links steps) lent) (payload_of (plan_length links steps) file)
+  pub rows : PlanRows width corridor (demands_in links steps demands) (record_in width links steps recorded) links steps k
+      (payload_of (plan_length links steps) lent) (payload_of (plan_length links steps) file)
   pub holds : Holds (plan_length links steps) file
 
-pub put_begun : (width : ℕ) (corridor demands recorded : List ℕ) (links steps : ℕ) (lent : List ℕ) → Holds (plan_length links steps) lent → PlanPut width corridor demands recorded links steps 0 lent lent
+pub put_begun : (width : ℕ) (corridor demands recorded : List ℕ) (links steps : ℕ) (lent : List ℕ) → Holds (plan_length links steps) lent
+    → PlanPut width corridor demands recorded links steps 0 lent lent
 put_begun width corridor demands recorded links steps lent h =
     record { rows = plan_begun width corridor _ _ links steps _ (tabulate_length (plan_length links steps) (payload_word lent)); holds = h }
 
@@ -47,31 +48,21 @@ row_read width wide corridor demands recorded links steps k h =
     ap₂ (λ (x y : List ℕ). plan_row width corridor links x (downstream_in links steps demands k) y) (demand_part links steps k demands _ refl h)
     (state_part width wide links steps recorded k _ refl (omega arith))
 
-row_count : (width : ℕ) (corridor demand : List ℕ) (downstream : ℕ) (row : List ℕ) (links : ℕ) → length (plan_row width corridor links demand downstream row) ≡ (links + 1) * 2
+row_count : (width : ℕ) (corridor demand : List ℕ) (downstream : ℕ) (row : List ℕ) (links : ℕ)
+    → length (plan_row width corridor links demand downstream row) ≡ (links + 1) * 2
 unfolding plan_row
 row_count width corridor demand downstream row links =
-    let e : length (plan_row width corridor links demand downstream row) ≡ suc links * 2 = row_words_length 2 (suc links) (setting_word width corridor demand downstream row) in
+    let e : length (plan_row width corridor links demand downstream row) ≡ suc links * 2 =
+    row_words_length 2 (suc links) (setting_word width corridor demand downstream row) in
     omega arith
 
--- ---- one row: it fits the file, and it is the plan's
+-- ---- one more row
 
-pub put_fits : (width links steps at room downstream : ℕ) (corridor demand row out : List ℕ) → out ≡ plan_row width corridor links demand downstream row → room ≡ blocks_for (plan_length links steps) * 512
-    → at + (links + 1) * 2 ≤ steps * ((links + 1) * 2) → blocks_for (at + length out) * 512 ≤ room
-put_fits width links steps at room downstream corridor demand row out e f h =
-    let n : length out ≡ (links + 1) * 2 = ap length e ∙ row_count width corridor demand downstream row links in
-    omega arith
-
--- r is where it starts
-pub put_told : (width links steps k r downstream : ℕ) (corridor demands recorded demand row out : List ℕ) (lent : List ℕ) {file : List ℕ} → out ≡ plan_row width corridor links demand downstream row
-    → downstream ≡ downstream_in links steps demands k → demand ≡ demand_row_in links demands k → row ≡ state_row_in width links recorded k → r ≡ k * ((links + 1) * 2) → (file ≡ put_payload lent r out) × Words out
-    → (file ≡ put_payload lent (k * ((links + 1) * 2)) (plan_row_in width corridor links steps demands recorded k)) × Words (plan_row_in width corridor links steps demands recorded k)
-put_told width links steps k r downstream corridor demands recorded demand row out lent o f d w e told =
-    let is : out ≡ plan_row_in width corridor links steps demands recorded k = o ∙ (λ z. plan_row width corridor links (d z) (f z) (w z)) in
-    (told.0 ∙ ap₂ (put_payload lent) e is, subst Words is told.1)
-
-module _ (width : ℕ) (corridor demands recorded : List ℕ) (links steps : ℕ) (ready : Ready width corridor (demands_in links steps demands) (record_in width links steps recorded) links steps) where
+module _ (width : ℕ) (corridor demands recorded : List ℕ) (links steps : ℕ)
+    (ready : Ready width corridor (demands_in links steps demands) (record_in width links steps recorded) links steps) where
   pub put_more : (k : ℕ) (lent file file' : List ℕ) → PlanPut width corridor demands recorded links steps k lent file → k < steps
-      → file' ≡ put_payload file (k * ((links + 1) * 2)) (plan_row_in width corridor links steps demands recorded k) → Words (plan_row_in width corridor links steps demands recorded k)
+      → file' ≡ put_payload file (k * ((links + 1) * 2)) (plan_row_in width corridor links steps demands recorded k)
+      → Words (plan_row_in width corridor links steps demands recorded k)
       → PlanPut width corridor demands recorded links steps (k + 1) lent file'
   put_more k lent file file' p h e w =
       let m : ℕ = plan_length links steps in
@@ -83,34 +74,35 @@ module _ (width : ℕ) (corridor demands recorded : List ℕ) (links steps : ℕ
       ∙ payload_put m r file ys w (omega (arith, row_fits_lem k steps ((links + 1) * 2) h)) (omega (arith, p.holds))
       ∙ ap (λ (x : ℕ). put_mid r (r + x - r) (payload_of m file) ys) n in
       record {
-        rows = subst (λ (x : List ℕ). PlanRows width corridor (demands_in links steps demands) (record_in width links steps recorded) links steps (k + 1) (payload_of m lent) x) (sym put)
-            (plan_more width corridor _ _ links steps ready k r (k * (suc links * width)) (suc links * width) (downstream_in links steps demands k) _ _ ys p.rows h refl refl refl refl (row_read width ready.wide corridor demands recorded links steps k h));
+        rows =
+            subst (λ (x : List ℕ). PlanRows width corridor (demands_in links steps demands) (record_in width links steps recorded) links steps (k + 1)
+            (payload_of m lent) x) (sym put)
+            (plan_more width corridor _ _ links steps ready k r (k * (suc links * width)) (suc links * width) (downstream_in links steps demands k) _ _ ys
+            p.rows h refl refl refl refl (row_read width ready.wide corridor demands recorded links steps k h));
         holds = ap length e ∙ put_length_same file r ys ∙ p.holds;
       }
 
   pub put_ended : (k : ℕ) (lent file : List ℕ) → PlanPut width corridor demands recorded links steps k lent file → steps ≤ k
-      → (payload_of (plan_length links steps) file ≡ converted_by width corridor (demands_in links steps demands) (record_in width links steps recorded)) × Holds (plan_length links steps) file
-  put_ended k lent file p h = (plan_ended width corridor _ _ links steps ready k _ _ p.rows h, p.holds)
+      → payload_of (plan_length links steps) file ≡ converted_by width corridor (demands_in links steps demands) (record_in width links steps recorded)
+  put_ended k lent file p h = plan_ended width corridor _ _ links steps ready k _ _ p.rows h
 
--- ---- sealed: m is the plan's length as the code has it
+-- ---- sealed: m is the plan's length, and kind the number of a plan, as the code has them
 
-pub seal_fits : (links steps m room : ℕ) → Told links steps → room ≡ blocks_for (plan_length links steps) * 512 → m ≡ steps * ((links + 1) * 2)
-    → (room ≡ blocks_for m * 512) × (m ≤ 4294967295)
+-- l and s are N and K as the proposal has them
+pub seal_fits : (links steps l s m room : ℕ) → l ≡ links → s ≡ steps → room ≡ blocks_for (plan_length l s) * 512 → m ≡ list_length Plan links steps
+    → room ≡ blocks_for m * 512
 unfolding list_length
-seal_fits links steps m room t h e =
-    let l : list_length Plan links steps ≤ 468327 = length_high Plan links steps t in
-    (omega arith, omega arith)
+seal_fits links steps l s m room n k h q = h ∙ ap (λ (x : ℕ). blocks_for x * 512) (ap₂ plan_length n k ∙ sym q)
 
 pub plan_sealed : (links steps : ℕ) (corridor demands recorded : List ℕ) → FilesFit links steps corridor demands recorded
-    → (count : ℕ) (list : List ℕ) → list ≡ payload_part 0 count corridor → count ≡ corridor_count links corridor
-    → (w m : ℕ) (file sealed : List ℕ) → w ≡ file_width recorded → m ≡ steps * ((links + 1) * 2) → payload_of (plan_length links steps) file ≡ converted_by w list (demands_in links steps demands) (record_in w links steps recorded)
-    → sealed ≡ file_of 4 (payload_of m file) → sealed ≡ plan_file links steps corridor demands recorded
-unfolding plan_file kind_number
-plan_sealed links steps corridor demands recorded fit count list told fits w m file sealed v q e s =
-    let l : m ≡ plan_length links steps = omega arith in
+    → (kind m : ℕ) (file sealed : List ℕ) → kind ≡ kind_number Plan → m ≡ list_length Plan links steps
+    → payload_of (plan_length links steps) file
+    ≡ converted_by (file_width recorded) (corridor_in links corridor) (demands_in links steps demands) (record_in (file_width recorded) links steps recorded)
+    → sealed ≡ file_of kind (payload_of m file) → sealed ≡ plan_file links steps corridor demands recorded
+unfolding plan_file list_length
+plan_sealed links steps corridor demands recorded fit kind m file sealed v q e s =
     s
-    ∙ ap (λ (n : ℕ). file_of 4 (payload_of n file)) l
-    ∙ ap (file_of 4) e
-    ∙ ap (λ (x : ℕ). file_of 4 (converted_by x list (demands_in links steps demands) (record_in x links steps recorded))) v
-    ∙ ap (λ (x : List ℕ). file_of 4 (converted_by (file_width recorded) x (demands_in links steps demands) (record_in (file_width recorded) links steps recorded))) (sym (corridor_read links steps corridor demands recorded fit count list told fits))
-    ∙ ap (λ (x : ℕ). file_of 4 (converted_by x (corridor_in links corridor) (demands_in links steps demands) (record_in (file_width recorded) links steps recorded))) (sym (read_width links steps corridor demands recorded fit))
+    ∙ ap₂ (λ (k n : ℕ). file_of k (payload_of n file)) v q
+    ∙ ap (file_of (kind_number Plan)) e
+    ∙ ap (λ (x : ℕ). file_of (kind_number Plan) (converted_by x (corridor_in links corridor) (demands_in links steps demands)
+    (record_in (file_width recorded) links steps recorded))) (sym (read_width links steps corridor demands recorded fit))

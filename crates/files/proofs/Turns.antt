@@ -6,8 +6,8 @@ use mathlib.Core.Path.{◌≡◌, refl, sym, ap, ap₂, ◌∙◌}
 use borrow.Author.Tests.{eq-eqb}
 use lib.Dec.{eqb}
 use lib.ListN.{length}
-use Rattle.tables.specs.declared.Answer.{Answer}
-use Rattle.tables.specs.declared.Answer.TheVariants.{Accepted, Refused}
+use Rattle.tables.specs.Answer.{Answer}
+use Rattle.tables.specs.Answer.{Accepted, Refused}
 use Rattle.tables.specs.Answer.{or_else, left, sized}
 use Rattle.tables.proofs.Answers.{or_else_assoc, or_else_accepts, sized_iff}
 use Rattle.tables.proofs.Grid.{grid_length}
@@ -37,7 +37,8 @@ second_same (Refused number row node) x y h = refl
 
 -- ---- one reader, told a good N and K, into a list of the right length, which is `count`
 
-module _ (kind : Kind) (n k : ℕ) (file lent : List ℕ) (told : told_fits n k ≡ true) (fits : length lent ≡ list_length kind n k) (count : ℕ) (is : list_length kind n k ≡ count) where
+module _ (kind : Kind) (n k : ℕ) (file lent : List ℕ) (told : told_fits n k ≡ true) (fits : length lent ≡ list_length kind n k) (count : ℕ)
+    (is : list_length kind n k ≡ count) where
   read_is : read_answer kind n k file (length lent) ≡ file_answer kind n k file
   unfolding read_answer
   read_is = ap₂ (λ (x y : Bool). or_else (sized (x && y)) (file_answer kind n k file)) told (eq-eqb _ _ fits)
@@ -47,7 +48,8 @@ module _ (kind : Kind) (n k : ℕ) (file lent : List ℕ) (told : told_fits n k 
   recorded_are h = ap (λ (x : Answer). left x (payload_of (list_length kind n k) file) lent) (read_is ∙ h) ∙ ap (λ (m : ℕ). payload_of m file) is
 
   one_turn : (rest : List ℕ → Answer)
-      → or_else (file_answer kind n k file) (rest (payload_of count file)) ≡ or_else (read_answer kind n k file (length lent)) (rest (words_read kind n k file lent))
+      → or_else (file_answer kind n k file) (rest (payload_of count file))
+      ≡ or_else (read_answer kind n k file (length lent)) (rest (words_read kind n k file lent))
   one_turn rest =
       second_same _ _ _ (λ h. ap rest (sym (recorded_are h)))
       ∙ ap (λ (x : Answer). or_else x (rest (words_read kind n k file lent))) (sym read_is)
@@ -55,18 +57,25 @@ module _ (kind : Kind) (n k : ℕ) (file lent : List ℕ) (told : told_fits n k 
 -- ---- all three
 
 module _ (n k : ℕ) (corridor demands recorded a b c : List ℕ) (told : told_fits n k ≡ true)
-    (p : length a ≡ list_length (file_kind Corridor corridor) n k) (q : length b ≡ list_length (file_kind Demands demands) n k) (r : length c ≡ list_length (file_kind Record recorded) n k) where
+    (p : length a ≡ list_length (file_kind Corridor corridor) n k) (q : length b ≡ list_length (file_kind Demands demands) n k)
+    (r : length c ≡ list_length (file_kind Record recorded) n k) where
   turns : (rest : List ℕ → List ℕ → List ℕ → Answer)
-      → or_else (files_answer n k corridor demands recorded) (rest (corridor_in n corridor) (demands_in n k demands) (record_in (file_width recorded) n k recorded)) ≡ in_turn n k corridor demands recorded a b c rest
+      → or_else (files_answer n k corridor demands recorded) (rest (corridor_in n corridor) (demands_in n k demands)
+      (record_in (file_width recorded) n k recorded)) ≡ in_turn n k corridor demands recorded a b c rest
   unfolding files_answer in_turn list_length
   turns rest =
       or_else_assoc (file_answer (file_kind Corridor corridor) n k corridor) _ _
       ∙ ap (or_else (file_answer (file_kind Corridor corridor) n k corridor))
       (or_else_assoc (file_answer (file_kind Demands demands) n k demands) _ _
-      ∙ ap (or_else (file_answer (file_kind Demands demands) n k demands)) (one_turn (file_kind Record recorded) n k recorded c told r _ (record_count n k recorded) (λ z. rest (corridor_in n corridor) (demands_in n k demands) z))
-      ∙ one_turn (file_kind Demands demands) n k demands b told q _ refl (λ y. or_else (read_answer (file_kind Record recorded) n k recorded (length c)) (rest (corridor_in n corridor) y (words_read (file_kind Record recorded) n k recorded c))))
+      ∙ ap (or_else (file_answer (file_kind Demands demands) n k demands))
+      (one_turn (file_kind Record recorded) n k recorded c told r _ (record_count n k recorded) (λ z. rest (corridor_in n corridor) (demands_in n k demands) z))
+      ∙ one_turn (file_kind Demands demands) n k demands b told q _ refl
+      (λ y. or_else (read_answer (file_kind Record recorded) n k recorded (length c))
+      (rest (corridor_in n corridor) y (words_read (file_kind Record recorded) n k recorded c))))
       ∙ one_turn (file_kind Corridor corridor) n k corridor a told p _ (corridor_count_lem n k corridor)
-      (λ x. or_else (read_answer (file_kind Demands demands) n k demands (length b)) (or_else (read_answer (file_kind Record recorded) n k recorded (length c)) (rest x (words_read (file_kind Demands demands) n k demands b) (words_read (file_kind Record recorded) n k recorded c))))
+      (λ x. or_else (read_answer (file_kind Demands demands) n k demands (length b))
+      (or_else (read_answer (file_kind Record recorded) n k recorded (length c))
+      (rest x (words_read (file_kind Demands demands) n k demands b) (words_read (file_kind Record recorded) n k recorded c))))
 
   -- the converter's plan of lists with this N and K has the right length for them
   convert_same : files_answer n k corridor demands recorded ≡ Accepted
@@ -86,7 +95,8 @@ module _ (n k : ℕ) (corridor demands recorded a b c : List ℕ) (told : told_f
       and_last true false u e = refl
       and_last false t u e = refl
 
-  plan_count : FilesFit n k corridor demands recorded → length (converted (corridor_in n corridor) (demands_in n k demands) (record_in (file_width recorded) n k recorded)) ≡ plan_length n k
+  plan_count : FilesFit n k corridor demands recorded
+      → length (converted (corridor_in n corridor) (demands_in n k demands) (record_in (file_width recorded) n k recorded)) ≡ plan_length n k
   unfolding converted_by plan_words road_of
   plan_count fit =
       grid_length 2 _ _ _
@@ -101,16 +111,19 @@ module _ (n k : ℕ) (corridor demands recorded a b c : List ℕ) (told : told_f
 
   written : (lent : List ℕ) → files_answer n k corridor demands recorded ≡ Accepted → eqb (length lent) (blocks_for (plan_length n k) * 512) ≡ true
       → plan_file n k corridor demands recorded
-      ≡ file_written Plan n k (converted (words_read (file_kind Corridor corridor) n k corridor a) (words_read (file_kind Demands demands) n k demands b) (words_read (file_kind Record recorded) n k recorded c)) lent
+      ≡ file_written Plan n k (converted (words_read (file_kind Corridor corridor) n k corridor a) (words_read (file_kind Demands demands) n k demands b)
+      (words_read (file_kind Record recorded) n k recorded c)) lent
   unfolding files_answer plan_file file_written list_length
   written lent h room =
       let fit = files_fit n k corridor demands recorded _ (told_is n k _ refl told) refl h in
       let first = (or_else_accepts (file_answer (file_kind Corridor corridor) n k corridor) _).0 h in
       let rest = (or_else_accepts (file_answer (file_kind Demands demands) n k demands) (file_answer (file_kind Record recorded) n k recorded)).0 first.1 in
       let plan : List ℕ = converted (corridor_in n corridor) (demands_in n k demands) (record_in (file_width recorded) n k recorded) in
-      let same : converted (words_read (file_kind Corridor corridor) n k corridor a) (words_read (file_kind Demands demands) n k demands b) (words_read (file_kind Record recorded) n k recorded c) ≡ plan =
+      let same : converted (words_read (file_kind Corridor corridor) n k corridor a) (words_read (file_kind Demands demands) n k demands b)
+      (words_read (file_kind Record recorded) n k recorded c) ≡ plan =
       λ z.
-      converted (recorded_are (file_kind Corridor corridor) n k corridor a told p _ (corridor_count_lem n k corridor) first.0 z) (recorded_are (file_kind Demands demands) n k demands b told q _ refl rest.0 z)
+      converted (recorded_are (file_kind Corridor corridor) n k corridor a told p _ (corridor_count_lem n k corridor) first.0 z)
+      (recorded_are (file_kind Demands demands) n k demands b told q _ refl rest.0 z)
       (recorded_are (file_kind Record recorded) n k recorded c told r _ (record_count n k recorded) rest.1 z) in
       sym (ap (λ (x : Answer). left x (file_of (kind_number Plan) plan) lent) (plan_taken (length lent) fit room))
       ∙ ap (λ (x : List ℕ). file_written Plan n k x lent) (sym same)
@@ -120,7 +133,8 @@ pub sized_same : (t : Bool) (x y : Answer) → (t ≡ true → x ≡ y) → or_e
 sized_same true x y h = h refl
 sized_same false x y h = refl
 
-pub as_lists : (n k : ℕ) (corridor demands recorded a b c : List ℕ) → length a ≡ list_length (file_kind Corridor corridor) n k → length b ≡ list_length (file_kind Demands demands) n k → length c ≡ list_length (file_kind Record recorded) n k
+pub as_lists : (n k : ℕ) (corridor demands recorded a b c : List ℕ) → length a ≡ list_length (file_kind Corridor corridor) n k
+    → length b ≡ list_length (file_kind Demands demands) n k → length c ≡ list_length (file_kind Record recorded) n k
     → Turns n k corridor demands recorded a b c
 unfolding check_files convert_files read_then_check plan_written
 as_lists n k corridor demands recorded a b c p q r =

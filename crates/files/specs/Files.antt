@@ -1,7 +1,7 @@
 -- Checker and converter on block files: "Told N and K, they give 1 for a bad one or a wrong output length, then read corridor, demands and
 -- record in turn; the converter writes a plan file."
 use Rattle.std.specs.Prelude.{◌&&◌, List, ℕ, ◌*◌, eqb, length}
-use Rattle.tables.specs.declared.Answer.{Answer}
+use Rattle.tables.specs.Answer.{Answer}
 use Rattle.tables.specs.Answer.{or_else, left, sized}
 use Rattle.lists.specs.Words.{plan_length}
 use Rattle.convert.specs.Convert.{check_answer, converted}
@@ -16,12 +16,14 @@ use Rattle.file_rows.specs.Words.{corridor_in, demands_in, file_width, record_in
 -- 14 to 18, and 1 for an own N or K that differs: each file is read whole before the next
 unfoldable pub files_answer : ℕ → ℕ → List ℕ → List ℕ → List ℕ → Answer
 files_answer n k corridor demands recorded =
-    or_else (file_answer (file_kind Corridor corridor) n k corridor) (or_else (file_answer (file_kind Demands demands) n k demands) (file_answer (file_kind Record recorded) n k recorded))
+    or_else (file_answer (file_kind Corridor corridor) n k corridor)
+    (or_else (file_answer (file_kind Demands demands) n k demands) (file_answer (file_kind Record recorded) n k recorded))
 
 -- then what the checker answers to the words that were read
 unfoldable pub read_then_check : ℕ → ℕ → List ℕ → List ℕ → List ℕ → Answer
 read_then_check n k corridor demands recorded =
-    or_else (files_answer n k corridor demands recorded) (check_answer (corridor_in n corridor) (demands_in n k demands) (record_in (file_width recorded) n k recorded))
+    or_else (files_answer n k corridor demands recorded)
+    (check_answer (corridor_in n corridor) (demands_in n k demands) (record_in (file_width recorded) n k recorded))
 
 unfoldable pub check_files : ℕ → ℕ → List ℕ → List ℕ → List ℕ → Answer
 check_files n k corridor demands recorded = or_else (sized (told_fits n k)) (read_then_check n k corridor demands recorded)

@@ -1,7 +1,7 @@
 -- What the functions ask of the files that they are lent: the readers' tests give it.
 use Rattle.std.specs.Prelude.{List, ◌≡◌, ℕ}
-use Rattle.tables.specs.declared.Answer.{Answer}
-use Rattle.tables.specs.declared.Answer.TheVariants.{Accepted}
+use Rattle.tables.specs.Answer.{Answer}
+use Rattle.tables.specs.Answer.{Accepted}
 use Rattle.tables.specs.Answer.{or_else}
 use Rattle.lists.specs.Words.{road_of, record_length}
 use Rattle.list_scans.specs.Refusals.{ranges}
@@ -11,7 +11,6 @@ use Rattle.payload.specs.File.{payload_word}
 use Rattle.block.specs.Kinds.{Told}
 use Rattle.file_rows.specs.Words.{corridor_count, corridor_in, demands_count, demands_in, file_width, record_in}
 use Rattle.file_rows.specs.Rows.{Holds, demand_row_in, downstream_in, state_row_in}
-use Rattle.file_scans.specs.Fits.{FilesReady}
 
 -- N and K are good, the three files have their blocks, and their own N and K are as told
 pub record FilesFit (links steps : ℕ) (corridor demands recorded : List ℕ) : Type 0 where
@@ -25,22 +24,17 @@ pub record FilesFit (links steps : ℕ) (corridor demands recorded : List ℕ) :
 -- the checker accepts the words in the files
 pub record Accepts (links steps : ℕ) (corridor demands recorded : List ℕ) : Type 0 where
   pub ranged : ranges (road_of (corridor_in links corridor) (demands_in links steps demands)) ≡ Accepted
-  pub judges : judged (file_width recorded) (road_of (corridor_in links corridor) (demands_in links steps demands)) (record_in (file_width recorded) links steps recorded) ≡ Accepted
+  pub judges : judged (file_width recorded) (road_of (corridor_in links corridor) (demands_in links steps demands))
+      (record_in (file_width recorded) links steps recorded) ≡ Accepted
 
 -- 2 to 5 and 7 to 13, in the words of the files
 abbrev pub words_answer : ℕ → ℕ → List ℕ → List ℕ → List ℕ → Answer
 words_answer links steps corridor demands recorded =
     or_else (ranges (road_of (corridor_in links corridor) (demands_in links steps demands)))
-    (judged (file_width recorded) (road_of (corridor_in links corridor) (demands_in links steps demands)) (record_in (file_width recorded) links steps recorded))
+    (judged (file_width recorded) (road_of (corridor_in links corridor) (demands_in links steps demands))
+    (record_in (file_width recorded) links steps recorded))
 
 -- the plan's row of step k
 abbrev pub plan_row_in : ℕ → List ℕ → ℕ → ℕ → List ℕ → List ℕ → ℕ → List ℕ
 plan_row_in width corridor links steps demands recorded k =
     plan_row width corridor links (demand_row_in links demands k) (downstream_in links steps demands k) (state_row_in width links recorded k)
-
--- ---- what is asked of the files once the corridor's words are unpacked
-
--- 1 to 5 and 7 to 13 are not due, and both files have their blocks
-pub record FilesKept (width links steps : ℕ) (corridor demands recorded : List ℕ) : Type 0 where
-  pub files : FilesReady width links steps corridor demands recorded
-  pub judges : judged width (road_of corridor (demands_in links steps demands)) (record_in width links steps recorded) ≡ Accepted

@@ -1,8 +1,8 @@
 -- The calls on files in the words of their promise: reading the three files in turn, then checking or converting the lists, then writing the
 -- plan file.
 use Rattle.std.specs.Prelude.{◌&&◌, List, ◌≡◌, ℕ, ◌*◌, eqb, length}
-use Rattle.tables.specs.declared.Answer.{Answer}
-use Rattle.tables.specs.declared.Answer.TheVariants.{Accepted}
+use Rattle.tables.specs.Answer.{Answer}
+use Rattle.tables.specs.Answer.{Accepted}
 use Rattle.tables.specs.Answer.{or_else, sized}
 use Rattle.lists.specs.Words.{plan_length}
 use Rattle.convert.specs.Convert.{converted, check_answer, convert_answer}
@@ -18,7 +18,8 @@ in_turn n k corridor demands recorded a b c rest =
     or_else (read_answer (file_kind Corridor corridor) n k corridor (length a))
     (or_else (read_answer (file_kind Demands demands) n k demands (length b))
     (or_else (read_answer (file_kind Record recorded) n k recorded (length c))
-    (rest (words_read (file_kind Corridor corridor) n k corridor a) (words_read (file_kind Demands demands) n k demands b) (words_read (file_kind Record recorded) n k recorded c))))
+    (rest (words_read (file_kind Corridor corridor) n k corridor a) (words_read (file_kind Demands demands) n k demands b)
+    (words_read (file_kind Record recorded) n k recorded c))))
 
 pub record Turns (n k : ℕ) (corridor demands recorded a b c : List ℕ) : Type 0 where
   pub checks : check_files n k corridor demands recorded ≡ or_else (sized (told_fits n k)) (in_turn n k corridor demands recorded a b c check_answer)
@@ -30,4 +31,5 @@ pub record Turns (n k : ℕ) (corridor demands recorded a b c : List ℕ) : Type
   -- the file that the writer makes of the converter's plan
   pub writes : (lent : List ℕ) → convert_files n k corridor demands recorded (length lent) ≡ Accepted
       → plan_written n k corridor demands recorded lent
-      ≡ file_written Plan n k (converted (words_read (file_kind Corridor corridor) n k corridor a) (words_read (file_kind Demands demands) n k demands b) (words_read (file_kind Record recorded) n k recorded c)) lent
+      ≡ file_written Plan n k (converted (words_read (file_kind Corridor corridor) n k corridor a) (words_read (file_kind Demands demands) n k demands b)
+      (words_read (file_kind Record recorded) n k recorded c)) lent

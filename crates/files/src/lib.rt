@@ -2,22 +2,27 @@
 #![tactic(auto)]
 
 ghost use Rattle.std.specs.Prelude.{◌≡◌, length};
+ghost use Rattle.tables.specs.Answer.{answer_of};
 ghost use Rattle.files.specs.Files.{check_files, convert_files, plan_written};
 
-use crate::inner::{answers, plans};
-use tables::{Answer, is_refused, sized};
+use crate::inner::answers::{Files, ReadFiles, room_fits};
+use crate::inner::plans;
+use block::inner::size;
+use tables::{Answer, sized};
 
 pub mod inner;
 
 // Checks a proposed record, with its corridor and its demands.
 pub fn check_files(n: u32, k: u32, corridor: &[u8], demands: &[u8], recorded: &[u8]) -> Answer
-    ensures { result ≡ check_files n k corridor.now demands.now recorded.now }
+    ensures { answer_of result ≡ check_files n k corridor.now demands.now recorded.now }
 {
-    let size = sized(block::inner::calls::told_fits(n, k));
-    if is_refused(size) {
-        return size;
-    }
-    answers::read_then_check(n, k, corridor, demands, recorded)
+    let size = size::told(n, k)?;
+    let files = Files {
+        corridor,
+        demands,
+        recorded,
+    };
+    files.read_then_check(size)
 }
 
 // Checks a proposed record and writes the file of the plan that has it.
@@ -29,17 +34,17 @@ pub fn convert_files(
     recorded: &[u8],
     plan: &mut [u8],
 ) -> Answer
-    ensures answered { result ≡ convert_files n k corridor.now demands.now recorded.now (length plan.old) }
+    ensures answered { answer_of result ≡ convert_files n k corridor.now demands.now recorded.now (length plan.old) }
     ensures written { plan.new ≡ plan_written n k corridor.now demands.now recorded.now plan.old }
 {
-    let size = sized(answers::room_fits(n, k, plan.len()));
-    if is_refused(size) {
-        return size;
-    }
-    let answer = answers::read_then_check(n, k, corridor, demands, recorded);
-    if is_refused(answer) {
-        return answer;
-    }
-    plans::write_plan(n as usize, k as usize, corridor, demands, recorded, plan);
-    answer
+    let size = size::told(n, k)?;
+    sized(room_fits(size, plan.len()))?;
+    let files = Files {
+        corridor,
+        demands,
+        recorded,
+    };
+    files.read_then_check(size)?;
+    plans::write_plan(ReadFiles { files, size }, plan);
+    Ok(())
 }

@@ -7,13 +7,14 @@ use native.Mathlib.Omega.{arith}
 use borrow.Author.Rules.{rules}
 use lib.Dec.{leb, ltb, eqb}
 use lib.ListN.{length}
-use Rattle.tables.specs.declared.Answer.{Answer}
+use Rattle.tables.specs.Answer.{Answer}
 use Rattle.tables.specs.Answer.{or_else, host_number, sized, Small}
 use Rattle.tables.specs.First.{first_place}
 use Rattle.tables.proofs.Answers.{small_refusal, small_or_else, small_unless, or_else_assoc}
 use Rattle.tables.proofs.First.{small_node, small_place}
 use Rattle.tables.proofs.Tests.{and_iff}
-use Rattle.road.specs.declared.Exit.{Exit}
+use Rattle.std.specs.Prelude.{Option}
+use Rattle.road.specs.declared.Units.{Units}
 use Rattle.road.specs.Corridor.{Link, Ramp, NodeState, Node, Road, Plan, Flows, nodes}
 use Rattle.road.specs.Step.{Junction, sending, exit, outflow}
 use Rattle.road.specs.Run.{junction, next, cost}
@@ -76,7 +77,7 @@ plan_small : (link : Link) (ramp : Ramp) (rate limit : ℕ) → plan_fault link 
 unfolding plan_fault
 plan_small link ramp rate limit = small_unless (leb rate ramp.capacity && leb limit link.full_speed) 6 (omega arith)
 
-fixed_small : (road : Road) (k i : ℕ) (state : NodeState) (flows : Flows) (said : Exit) → fixed_fault road k i state flows said ≤ 255
+fixed_small : (road : Road) (k i : ℕ) (state : NodeState) (flows : Flows) (said : Option Units) → fixed_fault road k i state flows said ≤ 255
 unfolding fixed_fault
 fixed_small road k i state flows said =
     small_unless
@@ -100,7 +101,7 @@ steps_small : (a b c d : Bool) (rest : ℕ) → rest ≤ 255 → unless_then a 8
 steps_small a b c d rest h =
     then_small a 8 _ (omega arith) (then_small b 9 _ (omega arith) (then_small c 10 _ (omega arith) (then_small d 11 rest (omega arith) h)))
 
-step_small : (junction : Junction) (flows : Flows) (said : Exit) (moved after : NodeState) → step_fault junction flows said moved after ≤ 255
+step_small : (junction : Junction) (flows : Flows) (said : Option Units) (moved after : NodeState) → step_fault junction flows said moved after ≤ 255
 unfolding step_fault
 step_small junction flows said moved after =
     steps_small
@@ -135,7 +136,7 @@ module _ (road : Road) (few : road.links ≤ 64) (short : road.steps ≤ 1440) w
   unfolding judged
   judged_small width words =
       let trace = trace_of width road words in
-      let said : ℕ → ℕ → Exit = exits_of width road words in
+      let said : ℕ → ℕ → Option Units = exits_of width road words in
       small_or_else (first_place (suc road.steps) (nodes road) (fixed_at road trace said)) _
       (small_place (suc road.steps) (nodes road) _ (omega arith) (omega arith) (λ k i. fixed_small road k i (trace.state k i) (trace.flows k i) (said k i)))
       (small_or_else (first_place road.steps (nodes road) (step_at road trace said)) _

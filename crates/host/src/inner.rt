@@ -1,17 +1,15 @@
 // An answer as one number.
 ghost use Rattle.std.specs.Prelude.{◌≡◌};
-ghost use Rattle.tables.specs.Answer.{host_number, Small};
+ghost use Rattle.tables.specs.Answer.{answer_of, host_number, Small};
 
-use tables::Answer;
-
-pub mod at_words;
+use tables::{Answer, number_of};
 
 pub fn number(answer: Answer) -> u32
-    requires { Small answer }
-    ensures { result ≡ host_number answer }
+    requires { Small (answer_of answer) }
+    ensures { result ≡ host_number (answer_of answer) }
 {
     match answer {
-        Answer::Accepted => 0,
-        Answer::Refused { number, row, node } => row * 65536 + node * 256 + number,
+        Ok(()) => 0,
+        Err(refusal) => refusal.row * 65536 + refusal.node * 256 + number_of(refusal.fault),
     }
 }

@@ -5,9 +5,8 @@ ghost use Rattle.simulate.specs.Simulate.{simulate_answer, record_left};
 ghost use Rattle.convert.specs.Convert.{check_answer, convert_answer, normal_answer, plan_left, work_left, normal_left};
 ghost use Rattle.nodes.specs.Nodes.{corridor_words};
 
-use crate::inner::at_words;
+use crate::inner;
 use nodes::Node;
-use nodes::inner::words;
 
 #[unsafe(no_mangle)]
 pub extern "C" fn gigorchid_simulate_nodes(
@@ -19,14 +18,16 @@ pub extern "C" fn gigorchid_simulate_nodes(
     ensures answered { result ≡ host_number (simulate_answer (corridor_words nodes.now) demands.now plan.now (length «record».old)) }
     ensures written { «record».new ≡ record_left (corridor_words nodes.now) demands.now plan.now «record».old }
 {
-    at_words::simulate_number(words::words_of_nodes(nodes), demands, plan, record)
+    let answer = nodes::simulate_nodes(nodes, demands, plan, record);
+    inner::number(answer)
 }
 
 #[unsafe(no_mangle)]
 pub extern "C" fn gigorchid_check_nodes(nodes: &[Node], demands: &[u32], record: &[u32]) -> u32
     ensures { result ≡ host_number (check_answer (corridor_words nodes.now) demands.now «record».now) }
 {
-    at_words::check_number(words::words_of_nodes(nodes), demands, record)
+    let answer = nodes::check_nodes(nodes, demands, record);
+    inner::number(answer)
 }
 
 #[unsafe(no_mangle)]
@@ -39,7 +40,8 @@ pub extern "C" fn gigorchid_convert_nodes(
     ensures answered { result ≡ host_number (convert_answer (corridor_words nodes.now) demands.now «record».now (length plan.old)) }
     ensures written { plan.new ≡ plan_left (corridor_words nodes.now) demands.now «record».now plan.old }
 {
-    at_words::convert_number(words::words_of_nodes(nodes), demands, record, plan)
+    let answer = nodes::convert_nodes(nodes, demands, record, plan);
+    inner::number(answer)
 }
 
 #[unsafe(no_mangle)]
@@ -54,5 +56,6 @@ pub extern "C" fn gigorchid_normal_nodes(
     ensures worked { work.new ≡ work_left (corridor_words nodes.now) demands.now plan.now work.old (length normal.old) }
     ensures written { normal.new ≡ normal_left (corridor_words nodes.now) demands.now plan.now (length work.old) normal.old }
 {
-    at_words::normal_number(words::words_of_nodes(nodes), demands, plan, work, normal)
+    let answer = nodes::normal_form_nodes(nodes, demands, plan, work, normal);
+    inner::number(answer)
 }

@@ -1,6 +1,6 @@
 -- Refusal 1 as facts, and what the test of all lengths gives: the facts that the functions on the lists ask for.
 use Prim.Native.Nat.{ℕ, ◌+◌, ◌*◌, ◌≤◌, ◌<◌}
-use mathlib.Core.Bool.{Bool, true, false, cond, ◌||◌, or-true, or-false}
+use mathlib.Core.Bool.{Bool, true, false, true≢false, cond, ◌&&◌, ◌||◌, or-true, or-false}
 use mathlib.Core.Path.{◌≡◌, refl, sym, ap, ap₂, subst, ◌∙◌}
 use mathlib.Core.List.{List}
 use mathlib.Core.Logic.{◌↔◌, ◌⊎◌, ⊎_elim}
@@ -12,6 +12,7 @@ use lib.Dec.{eqb}
 use lib.ListN.{length}
 use Rattle.tables.proofs.Numbers.{le_or_lt}
 use Rattle.road.specs.Limits.{Within}
+use Rattle.faults.specs.Lists.{within}
 use Rattle.faults.proofs.Tests.{eq_holds, both_hold, one_holds, within_holds}
 use Rattle.lists.specs.Words.{links_of, steps_of, corridor_length, node_width, demands_length, downstream_length, plan_length, Width, record_length, record_width, width_of}
 use Rattle.lists.specs.Fits.{CorridorFits, DemandsFit}
@@ -196,3 +197,35 @@ plan_words_lem corridor demands plan links steps e n k = omega (arith, plan_leng
 pub demand_words : (corridor demands : List ℕ) (links steps : ℕ) → sizes corridor demands ≡ true → links ≡ links_of corridor → steps ≡ steps_of demands
     → demands_length links steps ≤ length demands
 demand_words corridor demands links steps e n k = (demands_fit_lem corridor demands links steps e n k).words
+
+-- a record's length by width, links and steps as calls gave them
+pub record_as : (count width links steps w n k : ℕ) → width ≡ w → links ≡ n → steps ≡ k → count ≡ record_length w n k → count ≡ record_length width links steps
+record_as count width links steps w n k a b d e = rw (a, b, d) e
+
+-- ---- the tests of N and K, then of each list, as the code joins them
+
+first_fails : (a b c : Bool) → (a && b) ≡ false → false ≡ (a && (b && c))
+first_fails true true c e = absurd (true≢false e)
+first_fails true false c e = refl
+first_fails false b c e = refl
+
+first_holds : (a b c : Bool) → (a && b) ≡ true → c ≡ (a && (b && c))
+first_holds true true c e = refl
+first_holds true false c e = absurd (true≢false (sym e))
+first_holds false b c e = absurd (true≢false (sym e))
+
+module _ (links steps corridor demands : ℕ) (t : Bool) (told : t ≡ (within 1 64 links && within 1 1440 steps)) where
+  pub range_fails : t ≡ false → false ≡ lengths_fit links steps corridor demands
+  unfolding lengths_fit
+  range_fails e = first_fails (within 1 64 links) (within 1 1440 steps) (corridor_sized links corridor && demands_sized links steps demands) (sym told ∙ e)
+
+  pub corridor_fails : (u : Bool) → t ≡ true → u ≡ corridor_sized links corridor → u ≡ false → false ≡ lengths_fit links steps corridor demands
+  unfolding lengths_fit
+  corridor_fails u e h f =
+      ap (λ (x : Bool). x && demands_sized links steps demands) (sym f ∙ h) ∙ first_holds (within 1 64 links) (within 1 1440 steps) _ (sym told ∙ e)
+
+  pub demands_decide : (u v : Bool) → t ≡ true → u ≡ corridor_sized links corridor → u ≡ true → v ≡ demands_sized links steps demands
+      → v ≡ lengths_fit links steps corridor demands
+  unfolding lengths_fit
+  demands_decide u v e h f d =
+      d ∙ ap (λ (x : Bool). x && demands_sized links steps demands) (sym f ∙ h) ∙ first_holds (within 1 64 links) (within 1 1440 steps) _ (sym told ∙ e)

@@ -3,10 +3,11 @@ ghost use Rattle.std.specs.Prelude.{◌≡◌, ◌≤◌};
 ghost use Rattle.road.specs.Step.{receiving};
 ghost use Rattle.road.specs.Values.{link_of, ramp_of};
 ghost use Rattle.lists.specs.Rows.{state_in};
-ghost use Rattle.lists.specs.Fits.{CorridorFits, RowFits, NodeIn};
+ghost use Rattle.lists.specs.Fits.{RowFits, NodeIn};
 ghost use Rattle.link_table.specs.Table.{link_in, ramp_in, put_link, table_of};
 
-use lists::inner::words;
+use lists::inner::corridor::Corridor;
+use lists::inner::rows;
 use road::{Link, Ramp, Speed, Units};
 
 // A link and a ramp, stored as the words of node i.
@@ -26,17 +27,12 @@ fn put_link(table: &mut [u32], i: usize, link: Link, ramp: Ramp)
 }
 
 // The table of a corridor.
-pub fn fill(corridor: &[u32], links: usize, table: &mut [u32])
-    requires { CorridorFits corridor.now links × RowFits 8 table.old links }
-    ensures { table.new ≡ table_of corridor.now links }
+pub fn fill(corridor: Corridor<'_>, table: &mut [u32])
+    requires { RowFits 8 table.old corridor.links }
+    ensures { table.new ≡ table_of corridor.entry.words.now corridor.entry.links }
 {
-    let nodes = links + 1;
-    let mut i: usize = 0;
-    while i < nodes {
-        let link = words::link_at(corridor, links, i);
-        let ramp = words::ramp_at(corridor, links, i);
-        put_link(table, i, link, ramp);
-        i += 1;
+    for i in 0..corridor.nodes() {
+        put_link(table, i, corridor.link(i), corridor.ramp(i));
     }
 }
 
@@ -46,12 +42,12 @@ pub fn link_at(table: &[u32], i: usize) -> Link
     ensures { link_of result ≡ link_in table.now i }
 {
     Link {
-        capacity: Units(words::row_word(table, 8, i, 0)),
-        full_speed: Speed(words::row_word(table, 8, i, 1)),
-        wave_speed: Speed(words::row_word(table, 8, i, 2)),
-        jam: Units(words::row_word(table, 8, i, 3)),
-        dropped_capacity: Units(words::row_word(table, 8, i, 4)),
-        drop_density: Units(words::row_word(table, 8, i, 5)),
+        capacity: Units(rows::word(table, 8, i, 0)),
+        full_speed: Speed(rows::word(table, 8, i, 1)),
+        wave_speed: Speed(rows::word(table, 8, i, 2)),
+        jam: Units(rows::word(table, 8, i, 3)),
+        dropped_capacity: Units(rows::word(table, 8, i, 4)),
+        drop_density: Units(rows::word(table, 8, i, 5)),
     }
 }
 
@@ -61,8 +57,8 @@ pub fn ramp_at(table: &[u32], i: usize) -> Ramp
     ensures { ramp_of result ≡ ramp_in table.now i }
 {
     Ramp {
-        capacity: Units(words::row_word(table, 8, i, 6)),
-        queue_limit: Units(words::row_word(table, 8, i, 7)),
+        capacity: Units(rows::word(table, 8, i, 6)),
+        queue_limit: Units(rows::word(table, 8, i, 7)),
     }
 }
 
@@ -73,6 +69,6 @@ pub fn receiving_at(table: &[u32], row: &[u32], width: usize, i: usize) -> Units
     ensures { result.0 ≡ receiving (link_in table.now i) (state_in width row.now i).vehicles }
 {
     let link = link_at(table, i);
-    let vehicles = Units(words::row_word(row, width, i, 0));
+    let vehicles = Units(rows::word(row, width, i, 0));
     road::inner::receiving(link, vehicles)
 }

@@ -2,15 +2,13 @@
 use Prim.Native.Nat.{ℕ, suc, ◌+◌, ◌*◌, ◌≤◌, ◌<◌}
 use mathlib.Core.Bool.{Bool, true, false, cond}
 use mathlib.Core.List.{List}
-use mathlib.Core.Logic.{⊎_elim}
 use mathlib.Core.Path.{◌≡◌, refl, sym, ap, subst, ◌∙◌}
-use native.Mathlib.Nat.{eq-or-lt_of_le}
 use native.Mathlib.Numerals.{add-one}
 use native.Mathlib.Omega.{arith}
 use borrow.Author.Tests.{eq-eqb, ne_eqb}
 use lib.Dec.{lit<, eqb}
 use lib.ListN.{length, get_or, set}
-use Rattle.tables.specs.declared.Answer.TheVariants.{Accepted}
+use Rattle.tables.specs.Answer.{Accepted}
 use Rattle.tables.specs.First.{first_node}
 use Rattle.tables.specs.Grid.{row_words}
 use Rattle.tables.proofs.First.{first_node_accepts}
@@ -20,38 +18,8 @@ use Rattle.faults.specs.Lists.{demand_fault, plan_fault}
 use Rattle.faults.proofs.Tests.{le_holds, eq_holds, both_hold, implies_holds, no_fault}
 use Rattle.lists.specs.Words.{node_at}
 use Rattle.lists.specs.Fits.{RowFits}
-use Rattle.list_scans.specs.declared.inner.NodeTest.{NodeTest}
-use Rattle.list_scans.specs.declared.inner.NodeTest.TheVariants.{Link, Ramp, Start, Demand, Plan}
+use Rattle.list_scans.specs.Scans.{NodeTest, Link, Ramp, Start, Demand, Plan}
 use Rattle.list_scans.specs.Scans.{node_fault, node_fault_in, ReadsRow, most_word, MostAre, most_row, Within}
-
--- what is said only of true is said of false
-pub unsaid : {A : Type 0} → false ≡ true → A
-unsaid e = absurd (subst By e tt)
-  where
-    By : Bool → Type 0
-    By false = Unit {0}
-    By true = ⊥
-
--- ---- as a loop's invariant: `within` is said only where none of the first j of n words is above its bound
-
-pub record Below (j n : ℕ) (row : List ℕ) (most : ℕ → ℕ) (within : Bool) : Type 0 where
-  pub bound : j ≤ n
-  pub is : within ≡ true → (i : ℕ) → i < j → get_or row i 0 ≤ most i
-
-pub below_begun : (n : ℕ) (row : List ℕ) (most : ℕ → ℕ) → Below 0 n row most true
-below_begun n row most = record { bound = omega arith; is = λ e i h. absurd (omega arith) }
-
--- w and m are the word and its bound as the code has them
-pub below_more : (j n : ℕ) (row : List ℕ) (most : ℕ → ℕ) (within t : Bool) (w m : ℕ) → Below j n row most within → j < n → (t ≡ true → (within ≡ true) × (w ≤ m))
-    → w ≡ get_or row j 0 → m ≡ most j → Below (j + 1) n row most t
-below_more j n row most within t w m b h k e q =
-    record {
-      bound = omega arith;
-      is = λ s i l. ⊎_elim (λ (p : i ≡ j). subst (λ (x : ℕ). get_or row x 0 ≤ most x) (sym p) (omega (arith, (k s).1))) (λ (p : i < j). b.is (k s).0 i p) (eq-or-lt_of_le (omega arith));
-    }
-
-pub below_ended : (j n : ℕ) (row : List ℕ) (most : ℕ → ℕ) (within : Bool) → Below j n row most within → n ≤ j → within ≡ true → (i : ℕ) → i < n → get_or row i 0 ≤ most i
-below_ended j n row most within b h e i l = b.is e i (omega arith)
 
 -- ---- a row that no word of which is above its bound has no fault
 
@@ -148,29 +116,11 @@ module _ (corridor : List ℕ) (links i : ℕ) (n : i ≡ links → ⊥) where
       let entry : eqb i 0 ≡ false = ne_eqb i 0 e in
       (rw last, rw (last, entry))
 
--- and by the test that was chosen
-module _ (test : NodeTest) (corridor : List ℕ) (links i : ℕ) where
-  chosen : (other : NodeTest) (a b : ℕ) → test ≡ other → MostAre other corridor links i a b → MostAre test corridor links i a b
-  chosen other a b e = subst (λ (x : NodeTest). MostAre x corridor links i a b) (sym e)
-
-  pub link_most : test ≡ Link → MostAre test corridor links i 0 0
-  unfolding most_word
-  link_most e = chosen Link 0 0 e (refl, refl)
-
-  pub ramp_most : test ≡ Ramp → MostAre test corridor links i 0 0
-  unfolding most_word
-  ramp_most e = chosen Ramp 0 0 e (refl, refl)
-
-  pub start_most : test ≡ Start → MostAre test corridor links i 0 0
-  unfolding most_word
-  start_most e = chosen Start 0 0 e (refl, refl)
-
-  pub demand_most : (a b : ℕ) → test ≡ Demand → ((corridor : List ℕ) → MostAre Demand corridor links i a b) → MostAre test corridor links i a b
-  demand_most a b e h = chosen Demand a b e (h corridor)
-
-  pub plan_most : (ramp : Road.Ramp) (link : Road.Link) → test ≡ Plan → ramp ≡ (node_at corridor i).ramp → link ≡ (node_at corridor i).link → MostAre test corridor links i ramp.capacity link.full_speed
-  unfolding most_word
-  plan_most ramp link e r l = chosen Plan ramp.capacity link.full_speed e (ap (λ (x : Road.Ramp). x.capacity) r, ap (λ (x : Road.Link). x.full_speed) l)
+-- of a plan, by C and V as they are read
+pub plan_most : (corridor : List ℕ) (links i : ℕ) (ramp : Road.Ramp) (link : Road.Link) → ramp ≡ (node_at corridor i).ramp → link ≡ (node_at corridor i).link
+    → MostAre Plan corridor links i ramp.capacity link.full_speed
+unfolding most_word
+plan_most corridor links i ramp link r l = (ap (λ (x : Road.Ramp). x.capacity) r, ap (λ (x : Road.Link). x.full_speed) l)
 
 -- ---- the row of bounds, as a loop writes it: a and b are the bounds of node i as a call gave them
 

@@ -8,7 +8,7 @@ use native.Mathlib.Omega.{arith}
 use borrow.Author.Tests.{eq-eqb, ne_eqb}
 use lib.ListN.{length}
 use lib.Dec.{eqb}
-use Rattle.tables.specs.declared.Answer.TheVariants.{Accepted}
+use Rattle.tables.specs.Answer.{Accepted}
 use Rattle.tables.specs.Answer.{or_else, sized}
 use Rattle.tables.specs.Least.{least}
 use Rattle.tables.proofs.Numbers.{not_both}

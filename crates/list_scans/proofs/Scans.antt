@@ -1,90 +1,62 @@
 -- Laws of the scans, in the shape of what the code returns: the nodes of a corridor or a row, and the rows of a list.
-use Prim.Native.Nat.{ℕ, suc, ◌+◌, ◌-◌, ◌*◌, ◌≤◌, ◌<◌}
-use mathlib.Core.Path.{◌≡◌, sym, ap, ap₂, subst, ◌∙◌}
-use mathlib.Core.List.{List}
+use Prim.Native.Nat.{ℕ, suc, ◌+◌, ◌-◌, ◌*◌, ◌<◌}
+use mathlib.Core.Path.{◌≡◌, refl, ap, ap₂, ◌∙◌}
+use mathlib.Core.List.{List, []}
 use native.Mathlib.Nat.{zero-add}
-use native.Mathlib.Numerals.{add-one}
 use native.Mathlib.Omega.{arith}
-use lib.ListN.{get_or, take, drop}
-use Rattle.tables.specs.declared.Answer.{Answer}
-use Rattle.tables.specs.declared.Answer.TheVariants.{Accepted}
+use lib.ListN.{length, get_or, take, drop}
+use Rattle.tables.specs.Answer.{Answer}
+use Rattle.tables.specs.Answer.{Accepted}
 use Rattle.tables.specs.Answer.{or_else, refusal}
 use Rattle.tables.specs.First.{first_node}
 use Rattle.tables.specs.Grid.{place}
 use Rattle.tables.proofs.Answers.{Refuses, or_else_assoc, or_else_stop, or_else_next}
 use Rattle.tables.proofs.First.{first_same, first_place_same}
-use Rattle.tables.proofs.Part.{part_at}
-use Rattle.road.specs.Corridor as Road
-use Rattle.lists.specs.Words.{links_of, steps_of, node_at, free, road_of, plan_of}
-use Rattle.faults.specs.Lists.{link_fault, start_fault, demand_fault, plan_fault}
+use Rattle.tables.proofs.Numbers.{row_fits_lem}
+use Rattle.tables.proofs.Part.{part_at, part_length}
+use Rattle.lists.specs.Words.{links_of, steps_of, node_at, free, road_of, plan_of, plan_length}
+use Rattle.faults.specs.Lists.{plan_fault}
 use Rattle.list_scans.specs.Refusals.{link_refusal, ramp_refusal, start_refusal, demand_refusal, ranges, bounds, plan_bounds}
-use Rattle.list_scans.specs.declared.inner.NodeTest.{NodeTest}
-use Rattle.list_scans.specs.declared.inner.NodeTest.TheVariants.{Link, Ramp, Start, Demand, Plan}
-use Rattle.lists.specs.Fits.{RowFits, NodeIn}
-use Rattle.list_scans.specs.Scans.{node_fault, node_fault_in, node_fault_at, RowFor, corridor_refusal, demands_refusal, plan_refusal}
+use Rattle.list_scans.specs.Scans.{NodeTest}
+use Rattle.lists.specs.Rows.{lent}
+use Rattle.lists.specs.Fits.{DemandsFit, RowFits}
+use Rattle.list_scans.specs.Scans.{node_fault, node_fault_in, node_fault_at, corridor_refusal, demands_refusal, plan_refusal}
 
--- ---- rows: row k of (links + 1) * 2 words, that begins `skip` words and k rows into the list, as the code lends it
+-- ---- rows: row k of the list, that begins `skip` words and k rows into it, as the code lends it
 
-row_word : (l : List ℕ) (links skip k r i q : ℕ) → r ≡ k * ((links + 1) * 2) → i < suc links → q < 2
-    → get_or (take (skip + r + (links + 1) * 2 - (skip + r)) (drop (skip + r) l)) (i * 2 + q) 0 ≡ get_or l (skip + place 2 (suc links) k i q) 0
-row_word l links skip k r i q e h b =
-    let p : skip + r + (i * 2 + q) ≡ skip + place 2 (suc links) k i q = omega arith in
-    part_at (skip + r) ((links + 1) * 2) l (i * 2 + q) 0 (omega arith) ∙ ap (λ (j : ℕ). get_or l j 0) p
+row_word : (list : List ℕ) (links skip k at n i q : ℕ) → at ≡ skip + k * (suc links * 2) → n ≡ suc links * 2 → i < suc links → q < 2
+    → get_or (take (at + n - at) (drop at list)) (i * 2 + q) 0 ≡ get_or list (skip + place 2 (suc links) k i q) 0
+row_word list links skip k at n i q e w h b =
+    let p : at + (i * 2 + q) ≡ skip + place 2 (suc links) k i q = omega arith in
+    part_at at n list (i * 2 + q) 0 (omega arith) ∙ ap (λ (j : ℕ). get_or list j 0) p
 
--- r is where row k begins after the words that are skipped, t how many words the rows have
-pub row_told : (test : NodeTest) (corridor list : List ℕ) (links steps skip k r t downstream : ℕ) (a : Answer)
-    → a ≡ first_node (suc links) k (node_fault_in test corridor links (take (skip + r + (links + 1) * 2 - (skip + r)) (drop (skip + r) list)) downstream)
-    → r ≡ k * ((links + 1) * 2) → t ≡ steps * ((links + 1) * 2) → downstream ≡ get_or list (skip + t + k) free
+pub row_told : (test : NodeTest) (corridor list : List ℕ) (links steps skip k at n downstream : ℕ) (a : Answer) → at ≡ skip + k * (suc links * 2) → n ≡ suc links * 2
+    → downstream ≡ get_or list (skip + steps * (suc links * 2) + k) free
+    → a ≡ first_node (suc links) k (node_fault_in test corridor links (take (at + n - at) (drop at list)) downstream)
     → a ≡ first_node (suc links) k (node_fault_at test corridor links steps skip list k)
-row_told test corridor list links steps skip k r t downstream a e h g d =
-    let past : downstream ≡ get_or list (skip + steps * (suc links * 2) + k) free =
-    d ∙ ap (λ (x : ℕ). get_or list (skip + x + k) free) (g ∙ ap (λ (n : ℕ). steps * (n * 2)) (add-one links)) in
-    e
+row_told test corridor list links steps skip k at n downstream a e w d h =
+    h
     ∙ first_same (suc links) _ _
     (λ i l. ap (λ (x : ℕ). refusal x k i)
     (λ z.
-    node_fault test corridor links i (row_word list links skip k r i 0 h l (omega arith) z) (row_word list links skip k r i 1 h l (omega arith) z) (past z)))
+    node_fault test corridor links i (row_word list links skip k at n i 0 e w l (omega arith) z) (row_word list links skip k at n i 1 e w l (omega arith) z) (d z)))
 
--- ---- what a test finds at a node: v is the number as the code has it
+-- a row of the demands, and one of a plan as the code lends it, has two words for each node
+pub demand_lent : (links steps k : ℕ) (demands row : List ℕ) → DemandsFit demands links steps → k < steps
+    → row ≡ lent (1 + k * (suc links * 2)) (suc links * 2) demands → RowFits 2 row links
+demand_lent links steps k demands row fits h e =
+    ap length e
+    ∙ part_length (1 + k * (suc links * 2)) (suc links * 2) (length demands) demands
+    (omega (arith, fits.words, row_fits_lem k steps (suc links * 2) h)) refl
 
-module _ (test : NodeTest) (corridor : List ℕ) (links i first second downstream v : ℕ) where
-  pub link_found : (link : Road.Link) → test ≡ Link → link ≡ (node_at corridor i).link → v ≡ link_fault i link → v ≡ node_fault test corridor links i first second downstream
-  unfolding node_fault
-  link_found link t e h = h ∙ ap (link_fault i) e ∙ ap (λ (x : NodeTest). node_fault x corridor links i first second downstream) (sym t)
+pub plan_place : (links k at nodes : ℕ) → at ≡ k * (nodes * 2) → nodes ≡ suc links → at ≡ 0 + k * (suc links * 2)
+plan_place links k at nodes e h = let p : at ≡ k * (suc links * 2) = e ∙ ap (λ (n : ℕ). k * (n * 2)) h in omega (arith, p)
 
-  pub ramp_found : test ≡ Ramp → v ≡ node_fault Ramp corridor links i 0 0 0 → v ≡ node_fault test corridor links i first second downstream
-  unfolding node_fault
-  ramp_found t h = h ∙ ap (λ (x : NodeTest). node_fault x corridor links i first second downstream) (sym t)
-
-  pub start_found : test ≡ Start → v ≡ start_fault (node_at corridor i) → v ≡ node_fault test corridor links i first second downstream
-  unfolding node_fault
-  start_found t h = h ∙ ap (λ (x : NodeTest). node_fault x corridor links i first second downstream) (sym t)
-
-  pub demand_found : test ≡ Demand → v ≡ demand_fault links i first second downstream → v ≡ node_fault test corridor links i first second downstream
-  unfolding node_fault
-  demand_found t h = h ∙ ap (λ (x : NodeTest). node_fault x corridor links i first second downstream) (sym t)
-
-  pub plan_found : test ≡ Plan → v ≡ plan_fault (node_at corridor i).link (node_at corridor i).ramp first second → v ≡ node_fault test corridor links i first second downstream
-  unfolding node_fault
-  plan_found t h = h ∙ ap (λ (x : NodeTest). node_fault x corridor links i first second downstream) (sym t)
-
--- the row that it reads has the node's words
-pub demand_read : (test : NodeTest) (row : List ℕ) (links i : ℕ) → RowFor test row links → i ≤ links → test ≡ Demand → NodeIn 2 row i
-unfolding RowFor
-demand_read test row links i r h e = let f : RowFits 2 row links = subst (λ (x : NodeTest). RowFor x row links) e r in omega arith
-
-pub plan_read : (test : NodeTest) (row : List ℕ) (links i : ℕ) → RowFor test row links → i ≤ links → test ≡ Plan → NodeIn 2 row i
-unfolding RowFor
-plan_read test row links i r h e = let f : RowFits 2 row links = subst (λ (x : NodeTest). RowFor x row links) e r in omega arith
-
--- a row of two words a node serves every test
-pub row_for : (test : NodeTest) (row : List ℕ) (links : ℕ) → RowFits 2 row links → RowFor test row links
-unfolding RowFor
-row_for Link row links e = tt
-row_for Ramp row links e = tt
-row_for Start row links e = tt
-row_for Demand row links e = e
-row_for Plan row links e = e
+pub plan_lent : (links steps k at nodes : ℕ) (words : List ℕ) → k < steps → length words ≡ plan_length links steps → at ≡ k * (nodes * 2) → nodes ≡ suc links
+    → length (take (at + nodes * 2 - at) (drop at words)) ≡ suc links * 2
+plan_lent links steps k at nodes words h w e n =
+    let b : at ≡ 0 + k * (suc links * 2) = plan_place links k at nodes e n in
+    part_length at (nodes * 2) (length words) words (omega (arith, row_fits_lem k steps (suc links * 2) h)) refl ∙ ap (λ (x : ℕ). x * 2) n
 
 -- ---- the whole lists
 
@@ -98,6 +70,11 @@ unfolding corridor_refusal node_fault ranges link_refusal ramp_refusal start_ref
 ranges_are corridor demands =
     let road = road_of corridor demands in
     four (link_refusal road) (ramp_refusal road) (start_refusal road) (demand_refusal road)
+
+-- refusal 5 asks nothing of the corridor's words
+pub demands_bare : (corridor demands : List ℕ) (links steps : ℕ) → demands_refusal [] links steps demands ≡ demands_refusal corridor links steps demands
+unfolding node_fault
+demands_bare corridor demands links steps = refl
 
 pub ranges_stop : (corridor demands : List ℕ) (links : ℕ) (a : Answer) → links ≡ links_of corridor
     → a ≡ corridor_refusal corridor links → Refuses a → a ≡ ranges (road_of corridor demands)

@@ -1,6 +1,6 @@
 -- Refusals 2 to 6 of document 01: the first fault of a node by each number, by step, then node.
 use Rattle.std.specs.Prelude.{ℕ, Bool, List, eqb}
-use Rattle.tables.specs.declared.Answer.{Answer}
+use Rattle.tables.specs.Answer.{Answer}
 use Rattle.tables.specs.Answer.{or_else, sized}
 use Rattle.tables.specs.First.{first_node, first_place}
 use Rattle.tables.specs.Least.{least}

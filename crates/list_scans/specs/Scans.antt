@@ -1,15 +1,20 @@
 -- The refusals of the lists in terms of their words, for the functions that scan a corridor or the rows of a list.
 use Rattle.std.specs.Prelude.{ℕ, zero, suc, ◌+◌, ◌*◌, ◌≤◌, ◌<◌, cond, ◌≡◌, List, length, get_or, eqb}
-use Rattle.tables.specs.declared.Answer.{Answer}
+use Rattle.tables.specs.Answer.{Answer}
 use Rattle.tables.specs.Answer.{or_else}
 use Rattle.tables.specs.First.{first_node, first_place}
 use Rattle.tables.specs.Grid.{place, row_words}
-use Rattle.list_scans.specs.declared.inner.NodeTest.{NodeTest}
-use Rattle.list_scans.specs.declared.inner.NodeTest.TheVariants.{Link, Ramp, Start, Demand, Plan}
 use Rattle.lists.specs.Words.{node_at, free}
 use Rattle.faults.specs.Lists.{link_fault, ramp_fault, start_fault, demand_fault, plan_fault}
 use Rattle.list_scans.specs.Refusals.{fresh}
-use Rattle.lists.specs.Fits.{RowFits}
+
+-- what is looked for at a node: refusals 2, 3 and 4 in the corridor's words, 5 in a row of the demands, 6 in a row of a plan
+pub data NodeTest : Type 0 where
+  Link : NodeTest
+  Ramp : NodeTest
+  Start : NodeTest
+  Demand : NodeTest
+  Plan : NodeTest
 
 -- what a test finds at node i: 2, 3 or 4 in the corridor's words; 5 or 6 in the node's two words in a row of the demands or of a plan, and 5
 -- in the row's flow that may leave link N
@@ -30,14 +35,6 @@ abbrev pub node_fault_at : NodeTest → List ℕ → ℕ → ℕ → ℕ → Lis
 node_fault_at test corridor links steps skip list k i =
     node_fault test corridor links i (get_or list (skip + place 2 (suc links) k i 0) 0) (get_or list (skip + place 2 (suc links) k i 1) 0)
     (get_or list (skip + steps * (suc links * 2) + k) free)
-
--- the row that a test reads; those of the corridor read none
-unfoldable pub RowFor : NodeTest → List ℕ → ℕ → Type 0
-RowFor Link row links = Unit {0}
-RowFor Ramp row links = Unit {0}
-RowFor Start row links = Unit {0}
-RowFor Demand row links = RowFits 2 row links
-RowFor Plan row links = RowFits 2 row links
 
 -- whether a test reads a row
 unfoldable pub ReadsRow : NodeTest → Type 0

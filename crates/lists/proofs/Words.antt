@@ -13,7 +13,7 @@ use lib.Dec.{ltb}
 use Rattle.tables.specs.Grid.{place}
 use Rattle.tables.proofs.Numbers.{le_or_lt}
 use Rattle.tables.proofs.Grid.{each_place, grid_length, grid_at, grid_is, grid_same, before_rest, at_rest, each_with_rest}
-use Rattle.road.specs.declared.Exit.TheVariants.{Unsaid, Said}
+use Rattle.std.specs.Prelude.{Some, None}
 use Rattle.road.specs.Corridor.{NodeState, Road, Plan, Flows, Trace, nodes}
 use Rattle.road.specs.Step.{exit}
 use Rattle.road.specs.Run.{cost}
@@ -71,14 +71,14 @@ said_right : (width word right : ℕ) → Width width → (4 < width → word �
 unfolding exit_said
 said_right width word right w h = by_width (ltb 4 width) refl
   where
-    by_width : (t : Bool) → ltb 4 width ≡ t → exit_kept (cond t (Said (record { 0 = word })) Unsaid) right ≡ true
+    by_width : (t : Bool) → ltb 4 width ≡ t → exit_kept (cond t (Some (record { 0 = word })) None) right ≡ true
     by_width true e = eq-eqb word right (h (ltb-true 4 width e))
     by_width false e = refl
 
 pub right_said : (width word right : ℕ) → 4 < width → exit_kept (exit_said width word) right ≡ true → word ≡ right
 unfolding exit_said
 right_said width word right h e =
-    eqb-true word right (subst (λ (t : Bool). exit_kept (cond t (Said (record { 0 = word })) Unsaid) right ≡ true) (lt-ltb 4 width h) e)
+    eqb-true word right (subst (λ (t : Bool). exit_kept (cond t (Some (record { 0 = word })) None) right ≡ true) (lt-ltb 4 width h) e)
 
 pub trace_length_lem : (width : ℕ) (road : Road) (trace : Trace) → length (trace_words width road trace) ≡ trace_length width road.links road.steps
 unfolding trace_words

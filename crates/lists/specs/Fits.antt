@@ -1,7 +1,7 @@
 -- What the functions ask of the lists that they are lent: the test of all lengths gives the first three, the ranges of document 01 and the
 -- checks of a record the last.
 use Rattle.std.specs.Prelude.{ℕ, suc, ◌+◌, ◌*◌, ◌≤◌, ◌≡◌, List, length}
-use Rattle.lists.specs.Words.{links_of, steps_of, node_at, corridor_length, node_width, demands_length}
+use Rattle.lists.specs.Words.{links_of, steps_of, node_at, corridor_length, node_width, demands_length, record_length, Width}
 use Rattle.lists.specs.Rows.{state_in}
 
 -- the corridor's list has the words that its N tells, in its kind
@@ -16,6 +16,13 @@ pub record DemandsFit (demands : List ℕ) (links steps : ℕ) : Type 0 where
   pub few : links ≤ 64
   pub short : steps ≤ 1440
   pub words : demands_length links steps ≤ length demands
+
+-- the record's list has the words that N, K and its kind tell
+pub record RecordFits (width links steps : ℕ) (words : List ℕ) : Type 0 where
+  pub few : links ≤ 64
+  pub short : steps ≤ 1440
+  pub wide : Width width
+  pub sized : length words ≡ record_length width links steps
 
 -- a row has `width` words for each node
 abbrev pub RowFits : ℕ → List ℕ → ℕ → Type 0

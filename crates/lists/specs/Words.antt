@@ -1,8 +1,7 @@
 -- The word lists of document 01 and of requests 01, 04 and 07: where each word stands, how long each list is, and what corridor, demands, plan and record the words say.
-use Rattle.std.specs.Prelude.{ℕ, zero, suc, ◌+◌, ◌*◌, ◌/◌, ◌%◌, ◌≤◌, List, [], ◌∷◌, ◌++◌, cond, eqb, ltb, length, get_or}
+use Rattle.std.specs.Prelude.{ℕ, zero, suc, ◌+◌, ◌*◌, ◌/◌, ◌%◌, ◌≤◌, List, [], ◌∷◌, ◌++◌, cond, eqb, ltb, length, get_or, Option, Some, None}
 use Rattle.tables.specs.Grid.{grid, place}
-use Rattle.road.specs.declared.Exit.{Exit}
-use Rattle.road.specs.declared.Exit.TheVariants.{Unsaid, Said}
+use Rattle.road.specs.declared.Units.{Units}
 use Rattle.road.specs.Corridor.{Node, NodeState, Flows, Road, Plan, Trace, nodes}
 use Rattle.road.specs.Step.{exit}
 use Rattle.road.specs.Run.{cost}
@@ -120,10 +119,10 @@ trace_of width road words =
     }
 
 -- what a record says of a node's off-ramp flow, where `word` is the one after r: in kind 3 it is another node's, and nothing is said
-unfoldable pub exit_said : ℕ → ℕ → Exit
-exit_said width word = cond (ltb 4 width) (Said (record { 0 = word })) Unsaid
+unfoldable pub exit_said : ℕ → ℕ → Option Units
+exit_said width word = cond (ltb 4 width) (Some (record { 0 = word })) None
 
-abbrev pub exits_of : ℕ → Road → List ℕ → ℕ → ℕ → Exit
+abbrev pub exits_of : ℕ → Road → List ℕ → ℕ → ℕ → Option Units
 exits_of width road words k i = exit_said width (get_or words (place width (nodes road) k i 4) 0)
 
 -- the words of a node, its off-ramp flow the fifth

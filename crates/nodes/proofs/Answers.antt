@@ -7,7 +7,7 @@ use mathlib.Core.List.{List, []}
 use Prim.Native.Nat.{ℕ, ◌<◌}
 use native.Mathlib.Omega.{arith}
 use lib.ListN.{length}
-use Rattle.tables.specs.declared.Answer.TheVariants.{Refused}
+use Rattle.tables.specs.Answer.{Refused}
 use Rattle.lists.specs.Words.{links_of}
 use Rattle.lengths.specs.Lengths.{sizes}
 use Rattle.lengths.proofs.Sizes.{sizes_iff}
@@ -100,8 +100,8 @@ same : {X : Type 0} (F : List ℕ → X) (refused : X) (demands : List ℕ) → 
     → (nodes : List Node) → F (words_taken nodes) ≡ F (corridor_words nodes)
 same F refused demands h nodes =
     ⊎_elim
-    (λ none. ap F (taken_none nodes none.0) ∙ h [] (none_fail demands) ∙ sym (h (corridor_words nodes) (nodes_fail nodes demands none.0)))
-    (λ whole. ap F (taken_whole nodes whole.0 whole.1.0))
+    (λ none. ap F (taken_none nodes none) ∙ h [] (none_fail demands) ∙ sym (h (corridor_words nodes) (nodes_fail nodes demands none)))
+    (λ whole. ap F (taken_whole nodes whole.0 whole.1))
     (none_or_all (length nodes))
 
 module _ (nodes : List Node) (demands : List ℕ) where

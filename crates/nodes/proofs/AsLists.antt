@@ -14,7 +14,9 @@ use contract.Lifetimes.{Lfts}
 use denote.Ref.{Bor}
 use denote.MutBor.{MutBor}
 use denote.Triple.Clauses.{AtExit}
-use Rattle.tables.specs.declared.Answer.{Answer}
+use Rattle.std.specs.Prelude.{Result}
+use Rattle.tables.specs.declared.Refusal.{Refusal}
+use Rattle.tables.specs.Answer.{answer_of}
 use Rattle.simulate.specs.Simulate.{simulate_answer, record_left}
 use Rattle.convert.specs.Convert.{check_answer, convert_answer, normal_answer, plan_left, work_left, normal_left}
 use Rattle.nodes.specs.declared.Node.{Node}
@@ -31,13 +33,13 @@ use Rattle.nodes.specs.contracts.normal_form_nodes as normal_form_nodes
 module _ {M : Type 1} {𝓤 : Ura M} (𝓛 : Logic 𝓤) (mem : Memory → SProp 𝓤) (run : Routine → Fun 𝓤) where
   -- `corridor` is a list that holds the words of the nodes; r is any answer; e and f are the parameters at exit, alike but for the corridor
   pub record NodesAsLists (nodes : Bor (List Node)) (corridor : Bor (List ℕ)) : Type 2 where
-    pub simulate : (κs : Lfts 4) (demands plan : Bor (List ℕ)) (lent : MutBor (List ℕ)) (r : Answer) (e : AtExit simulate_nodes.ended κs) (f : AtExit simulate.ended κs) → e.1 ≡ f.1
+    pub simulate : (κs : Lfts 4) (demands plan : Bor (List ℕ)) (lent : MutBor (List ℕ)) (r : Result (Unit {0}) Refusal) (e : AtExit simulate_nodes.ended κs) (f : AtExit simulate.ended κs) → e.1 ≡ f.1
         → (simulate_nodes.clauses 𝓛 mem run κs (nodes, (demands, (plan, (lent, tt))))).ensures tt r e ≡ (simulate.clauses 𝓛 mem run κs (corridor, (demands, (plan, (lent, tt))))).ensures tt r f
-    pub check : (κs : Lfts 3) (demands proposed : Bor (List ℕ)) (r : Answer) (e : AtExit check_nodes.ended κs) (f : AtExit check.ended κs)
+    pub check : (κs : Lfts 3) (demands proposed : Bor (List ℕ)) (r : Result (Unit {0}) Refusal) (e : AtExit check_nodes.ended κs) (f : AtExit check.ended κs)
         → (check_nodes.clauses 𝓛 mem run κs (nodes, (demands, (proposed, tt)))).ensures tt r e ≡ (check.clauses 𝓛 mem run κs (corridor, (demands, (proposed, tt)))).ensures tt r f
-    pub convert : (κs : Lfts 4) (demands proposed : Bor (List ℕ)) (lent : MutBor (List ℕ)) (r : Answer) (e : AtExit convert_nodes.ended κs) (f : AtExit convert.ended κs) → e.1 ≡ f.1
+    pub convert : (κs : Lfts 4) (demands proposed : Bor (List ℕ)) (lent : MutBor (List ℕ)) (r : Result (Unit {0}) Refusal) (e : AtExit convert_nodes.ended κs) (f : AtExit convert.ended κs) → e.1 ≡ f.1
         → (convert_nodes.clauses 𝓛 mem run κs (nodes, (demands, (proposed, (lent, tt))))).ensures tt r e ≡ (convert.clauses 𝓛 mem run κs (corridor, (demands, (proposed, (lent, tt))))).ensures tt r f
-    pub normal_form : (κs : Lfts 5) (demands plan : Bor (List ℕ)) (work lent : MutBor (List ℕ)) (r : Answer) (e : AtExit normal_form_nodes.ended κs) (f : AtExit normal_form.ended κs) → e.1 ≡ f.1
+    pub normal_form : (κs : Lfts 5) (demands plan : Bor (List ℕ)) (work lent : MutBor (List ℕ)) (r : Result (Unit {0}) Refusal) (e : AtExit normal_form_nodes.ended κs) (f : AtExit normal_form.ended κs) → e.1 ≡ f.1
         → (normal_form_nodes.clauses 𝓛 mem run κs (nodes, (demands, (plan, (work, (lent, tt)))))).ensures tt r e
         ≡ (normal_form.clauses 𝓛 mem run κs (corridor, (demands, (plan, (work, (lent, tt)))))).ensures tt r f
 
@@ -45,17 +47,17 @@ module _ {M : Type 1} {𝓤 : Ura M} (𝓛 : Logic 𝓤) (mem : Memory → SProp
   nodes_as_lists nodes corridor words =
       record {
         simulate = λ κs demands plan lent r e f same.
-            ap₂ (λ (c left : List ℕ). sep 𝓤 (fact 𝓤 (r ≡ simulate_answer c demands.now plan.now (length lent.now))) (fact 𝓤 (left ≡ record_left c demands.now plan.now lent.now)))
+            ap₂ (λ (c left : List ℕ). sep 𝓤 (fact 𝓤 (answer_of r ≡ simulate_answer c demands.now plan.now (length lent.now))) (fact 𝓤 (left ≡ record_left c demands.now plan.now lent.now)))
             (sym words)
             (ap (λ x. x.1.1.0.now) same);
-        check = λ κs demands proposed r e f. ap (λ (c : List ℕ). fact 𝓤 (r ≡ check_answer c demands.now proposed.now)) (sym words);
+        check = λ κs demands proposed r e f. ap (λ (c : List ℕ). fact 𝓤 (answer_of r ≡ check_answer c demands.now proposed.now)) (sym words);
         convert = λ κs demands proposed lent r e f same.
-            ap₂ (λ (c left : List ℕ). sep 𝓤 (fact 𝓤 (r ≡ convert_answer c demands.now proposed.now (length lent.now))) (fact 𝓤 (left ≡ plan_left c demands.now proposed.now lent.now)))
+            ap₂ (λ (c left : List ℕ). sep 𝓤 (fact 𝓤 (answer_of r ≡ convert_answer c demands.now proposed.now (length lent.now))) (fact 𝓤 (left ≡ plan_left c demands.now proposed.now lent.now)))
             (sym words)
             (ap (λ x. x.1.1.0.now) same);
         normal_form = λ κs demands plan work lent r e f same.
             ap₂ (λ (c : List ℕ) (left : List ℕ × List ℕ).
-            sep 𝓤 (fact 𝓤 (r ≡ normal_answer c demands.now plan.now (length work.now) (length lent.now)))
+            sep 𝓤 (fact 𝓤 (answer_of r ≡ normal_answer c demands.now plan.now (length work.now) (length lent.now)))
             (sep 𝓤 (fact 𝓤 (left.0 ≡ work_left c demands.now plan.now work.now (length lent.now)))
             (fact 𝓤 (left.1 ≡ normal_left c demands.now plan.now (length work.now) lent.now))))
             (sym words)

@@ -1,11 +1,9 @@
 -- The corridor's word list that a list of nodes lays out, and the words that the code makes of it.
-use Rattle.std.specs.Prelude.{ℕ, ◌+◌, ◌-◌, ◌*◌, cond, List, [], ◌∷◌, length, get_or, take}
-use Rattle.std.proofs.lemmas.List.Edits.{sets}
+use Rattle.std.specs.Prelude.{ℕ, ◌+◌, ◌-◌, ◌*◌, cond, List, [], ◌∷◌, length, get_or}
 use Rattle.tables.specs.Grid.{row_words}
 use Rattle.road.specs.Corridor as Road
 use Rattle.faults.specs.Lists.{within}
 use Rattle.nodes.specs.declared.Node.{Node}
-use Rattle.nodes.specs.declared.inner.words.Words.{Words}
 
 -- a node's words in the order of a corridor of kind 10: identifier, F, V, W, J, C, L, starting n, starting l, dropped capacity, drop density
 unfoldable pub node_words : Node → List ℕ
@@ -67,22 +65,6 @@ node_of node =
 
 -- ---- as the code has them
 
--- how many nodes are copied out: none where their number is no corridor's
-unfoldable pub taken : ℕ → ℕ
-taken length = cond (within 2 65 length) length 0
-
--- how many words they make
-unfoldable pub word_count : ℕ → ℕ
-word_count count = cond (within 2 65 count) (count * 11 + 1) 0
-
--- the words at the front of the array
-abbrev pub given : Words → List ℕ
-given words = take words.length words.at
-
 -- the words that the list versions are given: none where the number of nodes is no corridor's, and so refusal 1
 unfoldable pub words_taken : List Node → List ℕ
 words_taken nodes = cond (within 2 65 (length nodes)) (corridor_words nodes) []
-
--- the array with the words of a node from the place k on
-abbrev pub with_node : List ℕ → ℕ → Node → List ℕ
-with_node at k node = sets at k (node_words node)

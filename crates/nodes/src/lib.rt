@@ -2,11 +2,12 @@
 #![tactic(auto)]
 
 ghost use Rattle.std.specs.Prelude.{◌≡◌, length};
+ghost use Rattle.tables.specs.Answer.{answer_of};
 ghost use Rattle.simulate.specs.Simulate.{simulate_answer, record_left};
 ghost use Rattle.convert.specs.Convert.{check_answer, convert_answer, normal_answer, plan_left, work_left, normal_left};
 ghost use Rattle.nodes.specs.Nodes.{corridor_words};
 
-use crate::inner::{calls, words};
+use crate::inner::words_of_nodes;
 use tables::Answer;
 
 pub mod inner;
@@ -30,25 +31,31 @@ pub struct Node {
 
 // The record of a plan.
 pub fn simulate_nodes(nodes: &[Node], demands: &[u32], plan: &[u32], record: &mut [u32]) -> Answer
-    ensures answered { result ≡ simulate_answer (corridor_words nodes.now) demands.now plan.now (length «record».old) }
+    ensures answered { answer_of result ≡ simulate_answer (corridor_words nodes.now) demands.now plan.now (length «record».old) }
     ensures written { «record».new ≡ record_left (corridor_words nodes.now) demands.now plan.now «record».old }
 {
-    calls::simulate_words(words::words_of_nodes(nodes), demands, plan, record)
+    let mut room = [0u32; 716];
+    let words = words_of_nodes(nodes, &mut room);
+    simulate::simulate(words, demands, plan, record)
 }
 
 // Checks a proposed record.
 pub fn check_nodes(nodes: &[Node], demands: &[u32], record: &[u32]) -> Answer
-    ensures { result ≡ check_answer (corridor_words nodes.now) demands.now «record».now }
+    ensures { answer_of result ≡ check_answer (corridor_words nodes.now) demands.now «record».now }
 {
-    calls::check_words(words::words_of_nodes(nodes), demands, record)
+    let mut room = [0u32; 716];
+    let words = words_of_nodes(nodes, &mut room);
+    convert::check(words, demands, record)
 }
 
 // Checks a proposed record and writes the plan that has it.
 pub fn convert_nodes(nodes: &[Node], demands: &[u32], record: &[u32], plan: &mut [u32]) -> Answer
-    ensures answered { result ≡ convert_answer (corridor_words nodes.now) demands.now «record».now (length plan.old) }
+    ensures answered { answer_of result ≡ convert_answer (corridor_words nodes.now) demands.now «record».now (length plan.old) }
     ensures written { plan.new ≡ plan_left (corridor_words nodes.now) demands.now «record».now plan.old }
 {
-    calls::convert_words(words::words_of_nodes(nodes), demands, record, plan)
+    let mut room = [0u32; 716];
+    let words = words_of_nodes(nodes, &mut room);
+    convert::convert(words, demands, record, plan)
 }
 
 // Simulates the plan into `work`, then writes the plan that the converter returns for that record.
@@ -59,9 +66,11 @@ pub fn normal_form_nodes(
     work: &mut [u32],
     normal: &mut [u32],
 ) -> Answer
-    ensures answered { result ≡ normal_answer (corridor_words nodes.now) demands.now plan.now (length work.old) (length normal.old) }
+    ensures answered { answer_of result ≡ normal_answer (corridor_words nodes.now) demands.now plan.now (length work.old) (length normal.old) }
     ensures worked { work.new ≡ work_left (corridor_words nodes.now) demands.now plan.now work.old (length normal.old) }
     ensures written { normal.new ≡ normal_left (corridor_words nodes.now) demands.now plan.now (length work.old) normal.old }
 {
-    calls::normal_form_words(words::words_of_nodes(nodes), demands, plan, work, normal)
+    let mut room = [0u32; 716];
+    let words = words_of_nodes(nodes, &mut room);
+    convert::normal_form(words, demands, plan, work, normal)
 }

@@ -6,20 +6,14 @@ use mathlib.Core.Path.{◌≡◌, refl, sym, ap, subst, ◌∙◌}
 use native.Mathlib.Omega.{arith}
 use lib.ListN.{length, length-append, take}
 use Rattle.io.specs.Counts.{IsPrefixLen}
-use Rattle.tables.specs.declared.Answer.{Answer}
-use Rattle.tables.specs.declared.Answer.TheVariants.{Accepted, Refused}
+use Rattle.tables.specs.Answer.{Answer}
+use Rattle.tables.specs.Answer.{Accepted, Refused}
 use Rattle.tables.specs.Sum.{sum}
 use Rattle.tables.proofs.Sum.{Summed, summed_ended}
 use Rattle.normal.specs.declared.inner.print.Given.{Given}
 use Rattle.normal.specs.Fits.{Gives}
 use Rattle.printed.specs.Input.{links_in, steps_in, input_answer}
 use Rattle.printed.specs.Text.{head_line, refused_line, plan_line, lines_of, step_text, plan_text, text_for, printed}
-
--- a line of n bytes that was put into a buffer of at most b, where the buffer's part with the line was handed over
-pub line_given : (n b : ℕ) (out text : List ℕ) (failed : Bool) (given : Given) → (take n out ≡ text) × IsPrefixLen n out → length out ≤ b → Gives (take n out) failed given
-    → Gives text failed given × (given.bytes ≤ b)
-line_given n b out text failed given line few g =
-    (subst (λ (x : List ℕ). Gives x failed given) line.0 g, omega (arith, g.bytes, line.1.0, line.1.1))
 
 lines_length : (n : ℕ) (line : ℕ → List ℕ) → length (lines_of n line) ≡ sum n (λ i. length (line i))
 unfolding lines_of sum

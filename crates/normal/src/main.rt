@@ -6,7 +6,6 @@ mod inner;
 
 ghost use Rattle.std.specs.Prelude.{◌≡◌, length};
 
-use inner::receive::Received;
 use inner::{print, receive};
 
 // The file that is standard error.
@@ -26,8 +25,7 @@ fn say(line: &[u8]) {
 
 fn main(rt: HostRuntime) {
     let mut room = input_room();
-    let received = receive::receive(&mut rt.stdin(), &mut room);
-    let Received::Bytes(n) = received else {
+    let Some(n) = receive::receive(&mut rt.stdin(), &mut room) else {
         say(b"normal: cannot read standard input\n");
         return;
     };

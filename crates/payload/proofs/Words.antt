@@ -1,10 +1,11 @@
 -- Laws of words in bytes: the bytes of a word make it again, a word that was put is read again, and other words stay.
-use mathlib.Core.List.{List}
+use mathlib.Core.List.{List, [], ◌∷◌}
 use mathlib.Core.Logic.{◌≢◌}
 use mathlib.Core.Path.{◌≡◌, refl, sym, ap, ◌∙◌}
 use Prim.Native.Nat.{ℕ, zero, suc, ◌+◌, ◌*◌, ◌/◌, ◌%◌, ◌≤◌, ◌<◌}
-use native.Mathlib.Nat.{div-div-eq-div-mul, div-add-mod', div-lt_iff_lt-mul, mod-eq_of_lt}
+use native.Mathlib.Nat.{suc-add, div-div-eq-div-mul, div-add-mod', div-lt_iff_lt-mul, mod-eq_of_lt}
 use native.Mathlib.Omega.{arith}
+use borrow.Rule.Slice.PartMut.{put_mid}
 use lib.Dec.{lit<}
 use lib.ListN.{length, get_or, set, length-set}
 use lib.Seq.{get_or-set_same, get_or-set_other}
@@ -88,6 +89,24 @@ module _ (l : List ℕ) (i a b c d : ℕ) where
       let e₁₃ : i + 1 ≢ i + 3 = omega arith in
       let e₂₃ : i + 2 ≢ i + 3 = omega arith in
       simp (get_or-set_same, get_or-set_other)
+
+-- four bytes that are copied into `l[i..i + 4]` are four stores; k is the length of this part
+four_copied : (l : List ℕ) (i k a b c d : ℕ) → k ≡ 4 → i + 4 ≤ length l
+    → put_mid i k l (a ∷ b ∷ c ∷ d ∷ []) ≡ set (set (set (set l i a) (i + 1) b) (i + 2) c) (i + 3) d
+four_copied (x ∷ xs) (suc i) k a b c d e h =
+    let r : put_mid i k xs (a ∷ b ∷ c ∷ d ∷ []) ≡ set (set (set (set xs i a) (i + 1) b) (i + 2) c) (i + 3) d = four_copied xs i k a b c d e (omega arith) in
+    simp suc-add (ap (λ (l : List ℕ). x ∷ l) r)
+four_copied (x ∷ y ∷ z ∷ w ∷ xs) zero k a b c d e h = rw e
+four_copied [] i k a b c d e h = absurd (omega arith)
+four_copied (x ∷ []) zero k a b c d e h = absurd (omega arith)
+four_copied (x ∷ y ∷ []) zero k a b c d e h = absurd (omega arith)
+four_copied (x ∷ y ∷ z ∷ []) zero k a b c d e h = absurd (omega arith)
+
+-- ys are the four bytes, and v the list of them that the library makes
+pub word_copied : (bytes : List ℕ) (j k w : ℕ) (ys v : List ℕ) → ys ≡ v → v ≡ byte_of w 0 ∷ byte_of w 1 ∷ byte_of w 2 ∷ byte_of w 3 ∷ [] → k ≡ 4
+    → j * 4 + 4 ≤ length bytes → put_mid (j * 4) k bytes ys ≡ put_word bytes j w
+unfolding put_word
+word_copied bytes j k w ys v e p q h = rw (e, p) (four_copied bytes (j * 4) k _ _ _ _ q h)
 
 pub word_put : (bytes : List ℕ) (j w : ℕ) → j * 4 + 4 ≤ length bytes → w < 4294967296 → word_at (put_word bytes j w) j ≡ w
 unfolding put_word word_at four

@@ -9,10 +9,10 @@ use borrow.Author.Tests.{le-leb, lt-leb, eq-eqb, ne_eqb, leb-true, eqb-true}
 use lib.Dec.{leb, eqb}
 use lib.ListN.{length, get_or, take, drop, length-drop}
 use lib.Seq.{take_all, length-take-le}
-use Rattle.tables.specs.declared.Answer.{Answer}
-use Rattle.tables.specs.declared.Answer.TheVariants.{Accepted, Refused}
+use Rattle.tables.specs.Answer.{Answer}
+use Rattle.tables.specs.Answer.{Accepted, Refused}
 use Rattle.tables.specs.Answer.{or_else, sized}
-use Rattle.tables.proofs.Answers.{or_else_accepts, refusal_unless, sized_iff}
+use Rattle.tables.proofs.Answers.{or_else_accepts, or_else_stop, refusal_unless, sized_iff}
 use Rattle.tables.proofs.Tabulate.{tabulate_at}
 use Rattle.road.specs.Corridor.{Road}
 use Rattle.road.specs.Run.{cost}
@@ -33,100 +33,43 @@ use Rattle.file_rows.specs.Rows.{Holds}
 use Rattle.files.specs.Fits.{FilesFit, Accepts}
 use Rattle.files.proofs.Answers.{accepts}
 use Rattle.files.proofs.Contents.{own_links_lem, own_steps_lem}
-use Rattle.file_scans.proofs.Scans.{cost_inside}
 use Rattle.printed.specs.declared.inner.input.Layout.{Layout}
 use Rattle.printed.specs.Input.{links_in, steps_in, demands_block, demands_kind, record_block, record_kind, end_block, corridor_file, demands_file, record_file, input_answer}
 use Rattle.printed.specs.Text.{refused_line, text_for, printed}
 use Rattle.printed.specs.Fits.{files_left, steps_left, Laid, stated_cost}
 
--- ---- a test, then the rest: x + 1 is the number of its refusal
+-- ---- the tests: of the length, of N beside a K that is good, and of K beside an N that is
 
-test_fails : (x : ℕ) (t : Bool) (rest : Answer) → t ≡ false → Refused (suc x) 0 0 ≡ or_else (tested t (suc x) 0) rest
-test_fails x t rest h = ap (λ (b : Bool). or_else (tested b (suc x) 0) rest) (sym h)
+pub enough_told : (t : Bool) → Accepted ≡ tested t 14 0 → t ≡ true
+enough_told t e = (refusal_unless t 14 0 0 (λ z. omega arith)).0 (sym e)
 
-test_holds : (x : ℕ) (t : Bool) (rest : Answer) → t ≡ true → rest ≡ or_else (tested t (suc x) 0) rest
-test_holds x t rest h = ap (λ (b : Bool). or_else (tested b (suc x) 0) rest) (sym h)
-
--- ---- N beside a K that is good, and K beside an N that is
-
-links_told : (n : ℕ) → told_fits n 1 ≡ within 1 64 n
+pub links_told : (n : ℕ) → sized (told_fits n 1) ≡ sized (within 1 64 n)
 unfolding told_fits
-links_told n = and-true (within 1 64 n)
+links_told n = ap sized (and-true (within 1 64 n))
 
-links_good : (n : ℕ) → Told n 1 → within 1 64 n ≡ true
-links_good n t = (within_holds 1 64 n).1 (record { above = t.links_low; below = t.links_high })
-
-steps_told : (n k : ℕ) → Told n 1 → told_fits n k ≡ within 1 1440 k
+pub steps_told : (n k : ℕ) → 1 ≤ n → n ≤ 64 → sized (told_fits n k) ≡ sized (within 1 1440 k)
 unfolding told_fits
-steps_told n k t = ap (λ (b : Bool). b && within 1 1440 k) (links_good n t)
+steps_told n k a b = ap (λ (t : Bool). sized (t && within 1 1440 k)) ((within_holds 1 64 n).1 (record { above = a; below = b }))
 
--- ---- the whole answer: a is what the code returns, and t what the test of N answered
+-- N that the test lets pass
+pub links_good : (n : ℕ) → Accepted ≡ sized (told_fits n 1) → (1 ≤ n) × (n ≤ 64)
+links_good n e = let w = (within_holds 1 64 n).0 ((sized_iff _).0 (sym (e ∙ links_told n))) in (w.above, w.below)
 
-module _ (input : List ℕ) (a : Answer) where
-  pub input_long : a ≡ Refused 14 0 0 → 65536 < length input → a ≡ input_answer input
-  unfolding input_answer
-  input_long e h = e ∙ test_fails 13 _ _ (lt-leb (length input) 65536 h)
-
-  module _ (few : length input ≤ 65536) where
-    pub input_short : a ≡ Refused 14 0 0 → length input < 12 → a ≡ input_answer input
-    unfolding input_answer
-    input_short e h = e ∙ test_fails 13 _ _ (lt-leb 12 (length input) h) ∙ test_holds 13 _ _ (le-leb (length input) 65536 few)
-
-    module _ (holds : 12 ≤ length input) (n : ℕ) (is : n ≡ links_in input) (t : Bool) (e : t ≡ told_fits n 1) where
-      links_answer : t ≡ within 1 64 (links_in input)
-      links_answer = e ∙ links_told n ∙ ap (within 1 64) is
-
-      pub input_unlinked : a ≡ Refused 1 0 0 → t ≡ false → a ≡ input_answer input
-      unfolding input_answer
-      input_unlinked q h =
-          q ∙ test_fails 0 _ _ (sym links_answer ∙ h) ∙ test_holds 13 _ _ (le-leb 12 (length input) holds) ∙ test_holds 13 _ _ (le-leb (length input) 65536 few)
-
-      pub input_linked : a ≡ steps_left input → t ≡ true → a ≡ input_answer input
-      unfolding input_answer
-      input_linked q h =
-          q ∙ test_holds 0 _ _ (sym links_answer ∙ h) ∙ test_holds 13 _ _ (le-leb 12 (length input) holds) ∙ test_holds 13 _ _ (le-leb (length input) 65536 few)
-
--- ---- once N is good: block is where the demands start, k the word there, and t what the test of both answered
+-- ---- once N is good: block is where the demands start, and k the word there
 
 module _ (input : List ℕ) (n : ℕ) (is : n ≡ links_in input) (block : ℕ) (b : block ≡ blocks_for (corridor_count n input)) where
   pub start : block ≡ demands_block input
   unfolding demands_block
   start = b ∙ ap (λ (x : ℕ). blocks_for (corridor_count x input)) is
 
-  pub steps_short : (a : Answer) → a ≡ Refused 14 0 0 → length input < block * 512 + 12 → a ≡ steps_left input
-  steps_short a e h = e ∙ test_fails 13 _ _ (subst (λ (x : ℕ). leb (x * 512 + 12) (length input) ≡ false) start (lt-leb (block * 512 + 12) (length input) h))
-
-  pub kind_is_lem : (kind : Kind) → kind ≡ file_kind Demands (drop (block * 512) input) → kind ≡ demands_kind input
-  unfolding demands_kind
-  kind_is_lem kind e = e ∙ ap (λ (x : ℕ). file_kind Demands (drop (x * 512) input)) start
+  pub start_tested : tested (leb (block * 512 + 12) (length input)) 14 0 ≡ tested (leb (demands_block input * 512 + 12) (length input)) 14 0
+  start_tested = ap (λ (x : ℕ). tested (leb (x * 512 + 12) (length input)) 14 0) start
 
   pub steps_are : (k : ℕ) → k ≡ word_in input block 2 → k ≡ steps_in input
   unfolding steps_in
   steps_are k word = word ∙ ap (λ (x : ℕ). word_in input x 2) start
 
-  module _ (told : Told n 1) (holds : block * 512 + 12 ≤ length input) (k : ℕ) (word : k ≡ word_in input block 2) (a : Answer) where
-    passed : leb (demands_block input * 512 + 12) (length input) ≡ true
-    passed = subst (λ (x : ℕ). leb (x * 512 + 12) (length input) ≡ true) start (le-leb (block * 512 + 12) (length input) holds)
-
-    module _ (t : Bool) (e : t ≡ told_fits n k) where
-      steps_answer : t ≡ within 1 1440 (steps_in input)
-      steps_answer = e ∙ steps_told n k told ∙ ap (within 1 1440) (steps_are k word)
-
-      pub steps_bad : a ≡ Refused 1 0 0 → t ≡ false → a ≡ steps_left input
-      steps_bad q h = q ∙ test_fails 0 _ _ (sym steps_answer ∙ h) ∙ test_holds 13 _ _ passed
-
-      pub steps_good : a ≡ files_left input → t ≡ true → a ≡ steps_left input
-      steps_good q h = q ∙ test_holds 0 _ _ (sym steps_answer ∙ h) ∙ test_holds 13 _ _ passed
-
 -- ---- the kind of a file that starts at a place of the input
-
--- what is left of an input from a place on
-rest_is : (at : ℕ) (input : List ℕ) → take (length input - at) (drop at input) ≡ drop at input
-rest_is at input = take_all (length input - at) (drop at input) (simp length-drop (omega arith))
-
--- tells the kind of a file that starts there: `oldest` is that of its place
-pub rest_kind : (oldest : Kind) (at : ℕ) (input : List ℕ) (kind : Kind) → kind ≡ file_kind oldest (take (length input - at) (drop at input)) → kind ≡ file_kind oldest (drop at input)
-rest_kind oldest at input kind e = e ∙ ap (file_kind oldest) (rest_is at input)
 
 -- no kind has the number 0, which stands for none
 none_said : (kind : Kind) → kind ≡ cond (eqb 0 (kind_number (later kind))) (later kind) kind
@@ -149,7 +92,12 @@ past_kind kind at input h =
 
 -- ---- once K is good: where the files start
 
-module _ (input : List ℕ) (n k : ℕ) (links : n ≡ links_in input) (steps : k ≡ steps_in input) (kind : Kind) (chosen : kind ≡ demands_kind input) (block : ℕ) (starts : block ≡ demands_block input) (at : Layout) (laid : Laid block kind n k at) where
+module _ (input : List ℕ) (n k block : ℕ) (links : n ≡ links_in input) (steps : k ≡ steps_in input) (starts : block ≡ demands_block input)
+    (at : Layout) (laid : Laid block (file_kind Demands (drop (block * 512) input)) n k at) where
+  chosen : file_kind Demands (drop (block * 512) input) ≡ demands_kind input
+  unfolding demands_kind
+  chosen = ap (λ (x : ℕ). file_kind Demands (drop (x * 512) input)) starts
+
   demands_at : at.demands ≡ demands_block input * 512
   demands_at = laid.demands ∙ ap (λ (x : ℕ). x * 512) starts
 
@@ -158,30 +106,28 @@ module _ (input : List ℕ) (n k : ℕ) (links : n ≡ links_in input) (steps : 
   record_at = laid.recorded ∙ (λ z. (starts z + blocks_for (list_length (chosen z) (links z) (steps z))) * 512)
 
   -- `last` is the record's kind, and `blocks` how many it has, as calls gave them
-  end_at : (last : Kind) → last ≡ file_kind Record (drop at.recorded input) → (blocks : ℕ) → blocks ≡ blocks_for (list_length last n k) → at.recorded + blocks * 512 ≡ end_block input * 512
+  pub end_tested : (last : Kind) → last ≡ file_kind Record (drop at.recorded input) → (blocks : ℕ) → blocks ≡ blocks_for (list_length last n k)
+      → tested (eqb (length input) (at.recorded + blocks * 512)) 14 0 ≡ tested (eqb (length input) (end_block input * 512)) 14 0
   unfolding end_block record_kind
-  end_at last e blocks b =
+  end_tested last e blocks b =
       let own : last ≡ record_kind input = e ∙ ap (λ (x : ℕ). file_kind Record (drop x input)) record_at in
       let many : blocks ≡ blocks_for (list_length (record_kind input) (links_in input) (steps_in input)) = b ∙ (λ z. blocks_for (list_length (own z) (links z) (steps z))) in
-      omega (arith, record_at, many)
+      let ends : at.recorded + blocks * 512 ≡ end_block input * 512 = omega (arith, record_at, many) in
+      ap (λ (x : ℕ). tested (eqb (length input) x) 14 0) ends
 
-  -- the files as the code lends them are the input's, whatever is asked of them
-  parts_are {ℓ} : {X : Type ℓ} (f : ℕ → ℕ → List ℕ → List ℕ → List ℕ → X)
-      → f n k (take at.demands input) (take (at.recorded - at.demands) (drop at.demands input)) (take (length input - at.recorded) (drop at.recorded input))
-      ≡ f (links_in input) (steps_in input) (corridor_file input) (demands_file input) (record_file input)
-  parts_are f =
-      λ z.
-      f (links z) (steps z) (take (demands_at z) input) (take (record_at z - demands_at z) (drop (demands_at z) input))
-      ((rest_is at.recorded input ∙ ap (λ (x : ℕ). drop x input) record_at) z)
+  pub in_order : end_block input * 512 ≡ length input → at.recorded ≤ length input
+  unfolding end_block
+  in_order e = omega (arith, record_at)
 
-  module _ (a : Answer) (last : Kind) (own : last ≡ file_kind Record (drop at.recorded input)) (blocks : ℕ) (many : blocks ≡ blocks_for (list_length last n k)) where
-    pub files_left_over : a ≡ Refused 14 0 0 → length input ≢ at.recorded + blocks * 512 → a ≡ files_left input
-    files_left_over e h = e ∙ test_fails 13 _ _ (ne_eqb (length input) (end_block input * 512) (λ q. h (q ∙ sym (end_at last own blocks many))))
+  -- the files as the code lends them are the input's
+  pub corridor_lent : take at.demands input ≡ corridor_file input
+  corridor_lent = ap (λ (x : ℕ). take x input) demands_at
 
-    pub files_read : length input ≡ at.recorded + blocks * 512
-        → a ≡ read_then_check n k (take at.demands input) (take (at.recorded - at.demands) (drop at.demands input)) (take (length input - at.recorded) (drop at.recorded input))
-        → a ≡ files_left input
-    files_read h e = e ∙ parts_are read_then_check ∙ test_holds 13 _ _ (eq-eqb (length input) (end_block input * 512) (h ∙ end_at last own blocks many))
+  pub demands_lent : take (at.recorded - at.demands) (drop at.demands input) ≡ demands_file input
+  demands_lent = λ z. take (record_at z - demands_at z) (drop (demands_at z) input)
+
+  pub record_lent : drop at.recorded input ≡ record_file input
+  record_lent = ap (λ (x : ℕ). drop x input) record_at
 
 -- ---- what an accepted input keeps
 
@@ -216,67 +162,7 @@ input_kept input e =
       accepted = h.1;
     }
 
--- ---- an accepted input: what the reading of N and K asks
-
-module _ (input : List ℕ) (kept : Kept input) (n : ℕ) (links : n ≡ links_in input) where
-  pub kept_links : Told n 1
-  kept_links =
-      record {
-        links_low = omega (arith, kept.told.links_low);
-        links_high = omega (arith, kept.told.links_high);
-        steps_low = omega arith;
-        steps_high = omega arith;
-      }
-
-  module _ (block : ℕ) (b : block ≡ blocks_for (corridor_count n input)) where
-    pub kept_block : block * 512 + 12 ≤ length input
-    kept_block = omega (arith, kept.holds, start input n links block b)
-
-    module _ (k : ℕ) (word : k ≡ word_in input block 2) where
-      steps : k ≡ steps_in input
-      steps = steps_are input n links block b k word
-
-      pub kept_steps : Told n k
-      kept_steps = subst₂ Told (sym links) (sym steps) kept.told
-
-      pub kept_laid : (kind : Kind) → kind ≡ file_kind Demands (drop (block * 512) input) → (at : Layout) → Laid block kind n k at
-          → Laid (demands_block input) (demands_kind input) (links_in input) (steps_in input) at
-      kept_laid kind e at laid = coe 0 1 (z. Laid (start input n links block b z) (kind_is_lem input n links block b kind e z) (links z) (steps z) at) laid
-
--- ---- its files, as the code lends them: what holds of the one holds of the other
-
-module _ (input : List ℕ) (kept : Kept input) (at : Layout) (laid : Laid (demands_block input) (demands_kind input) (links_in input) (steps_in input) at) where
-  pub in_order : (at.demands ≤ at.recorded) × (at.recorded ≤ length input)
-  unfolding end_block record_block
-  in_order = (omega (arith, laid.demands, laid.recorded), omega (arith, laid.recorded, kept.whole))
-
-  laid_again : Laid (demands_block input) (demands_kind input) at.links at.steps at
-  laid_again = subst₂ (λ (n k : ℕ). Laid (demands_block input) (demands_kind input) n k at) (sym laid.links) (sym laid.steps) laid
-
-  module _ (P : ℕ → ℕ → List ℕ → List ℕ → List ℕ → Type 0) where
-    pub lent : P (links_in input) (steps_in input) (corridor_file input) (demands_file input) (record_file input)
-        → P at.links at.steps (take at.demands input) (take (at.recorded - at.demands) (drop at.demands input)) (take (length input - at.recorded) (drop at.recorded input))
-    lent h = coe 1 0 (z. parts_are input at.links at.steps laid.links laid.steps (demands_kind input) refl (demands_block input) refl at laid_again P z) h
-
-    pub lent_back : P at.links at.steps (take at.demands input) (take (at.recorded - at.demands) (drop at.demands input)) (take (length input - at.recorded) (drop at.recorded input))
-        → P (links_in input) (steps_in input) (corridor_file input) (demands_file input) (record_file input)
-    lent_back h = coe 0 1 (z. parts_are input at.links at.steps laid.links laid.steps (demands_kind input) refl (demands_block input) refl at laid_again P z) h
-
 -- ---- the cost that an accepted record states
-
--- at is where it starts, w how many words a row has, and width how many a node has, as the code has them
-module _ (links steps width at w : ℕ) (file : List ℕ) (told : width ≡ file_width file) (e : at ≡ (steps + 1) * w) (q : w ≡ suc links * width) where
-  wide : w ≡ suc links * file_width file
-  wide = q ∙ ap (λ (x : ℕ). suc links * x) told
-
-  pub stated_inside : Holds (record_length (file_width file) links steps) file → blocks_for (at + 2) * 512 ≡ length file
-  stated_inside h = cost_inside (file_width file) links steps at w file e wide h
-
-  -- low and high are the two words
-  pub stated_told : (low high : ℕ) → low ≡ payload_word file at → high ≡ payload_word file (at + 1) → high * 4294967296 + low ≡ stated_cost links steps file
-  stated_told low high l h =
-      let p : at ≡ trace_length (file_width file) links steps = omega (arith, ap (λ (x : ℕ). (steps + 1) * x) wide) in
-      ap₂ (λ (x y : ℕ). x * 4294967296 + y) (h ∙ ap (λ (n : ℕ). payload_word file (n + 1)) p) (l ∙ ap (payload_word file) p)
 
 pub cost_stated : (links steps : ℕ) (corridor demands recorded : List ℕ) → FilesFit links steps corridor demands recorded → Accepts links steps corridor demands recorded
     → stated_cost links steps recorded
@@ -302,10 +188,14 @@ cost_stated links steps corridor demands recorded fit accepted =
 
 -- ---- an input that is too long
 
+input_long : (input : List ℕ) → 65536 < length input → Refused 14 0 0 ≡ input_answer input
+unfolding input_answer
+input_long input h = or_else_stop _ _ _ (ap (λ (t : Bool). tested t 14 0) (sym (lt-leb (length input) 65536 h))) tt
+
 -- it is refused by 14
 long_printed : (input : List ℕ) → 65536 < length input → printed input ≡ refused_line 14 0 0
 unfolding printed
-long_printed input h = ap (λ (a : Answer). text_for a input) (sym (input_long input (Refused 14 0 0) refl h))
+long_printed input h = ap (λ (a : Answer). text_for a input) (sym (input_long input h))
 
 -- so what is printed for its first 65,537 bytes is what is to be printed for all of it
 pub cut_printed : (input : List ℕ) → 65536 < length input → printed (take 65537 input) ≡ printed input

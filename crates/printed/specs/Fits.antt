@@ -1,7 +1,7 @@
--- What the functions ask and answer in between: the tails of the input's answer, where its files start, the cost that the record states, and a
--- text put into a lent buffer.
-use Rattle.std.specs.Prelude.{ℕ, ◌+◌, ◌*◌, ◌≤◌, List, ◌++◌, ◌≡◌, leb, eqb, length, take}
-use Rattle.tables.specs.declared.Answer.{Answer}
+-- What the functions ask and answer in between: the tails of the input's answer, where its files start, and the cost that the
+-- record states.
+use Rattle.std.specs.Prelude.{ℕ, ◌+◌, ◌*◌, List, ◌≡◌, leb, eqb, length}
+use Rattle.tables.specs.Answer.{Answer}
 use Rattle.tables.specs.Answer.{or_else, sized}
 use Rattle.lists.specs.Words.{trace_length}
 use Rattle.faults.specs.Lists.{within}
@@ -31,8 +31,6 @@ steps_left input =
 -- ---- where the files of N links and K steps start, with demands of this kind that start with this block
 
 pub record Laid (block : ℕ) (kind : Kind) (n k : ℕ) (layout : Layout) : Type 0 where
-  pub links : layout.links ≡ n
-  pub steps : layout.steps ≡ k
   pub demands : layout.demands ≡ block * 512
   pub recorded : layout.recorded ≡ (block + blocks_for (list_length kind n k)) * 512
 
@@ -41,11 +39,3 @@ pub record Laid (block : ℕ) (kind : Kind) (n k : ℕ) (layout : Layout) : Type
 abbrev pub stated_cost : ℕ → ℕ → List ℕ → ℕ
 stated_cost links steps file =
     payload_word file (trace_length (file_width file) links steps + 1) * 4294967296 + payload_word file (trace_length (file_width file) links steps)
-
--- ---- text
-
--- `text` was put at place `at` of a buffer, and ends before place r
-pub record Put (before : List ℕ) (at : ℕ) (text : List ℕ) (r : ℕ) (after : List ℕ) : Type 0 where
-  pub ends : r ≡ at + length text
-  pub fits : r ≤ length after
-  pub reads : take r after ≡ take at before ++ text

@@ -1,7 +1,7 @@
 -- The program's input: a corridor's, the demands' and a record's file, one after another. N, K and the kinds of corridor, demands and
 -- record are taken from the files themselves.
 use Rattle.std.specs.Prelude.{ℕ, ◌+◌, ◌-◌, ◌*◌, List, leb, eqb, length, take, drop}
-use Rattle.tables.specs.declared.Answer.{Answer}
+use Rattle.tables.specs.Answer.{Answer}
 use Rattle.tables.specs.Answer.{or_else, sized}
 use Rattle.faults.specs.Lists.{within}
 use Rattle.payload.specs.File.{blocks_for, word_in}

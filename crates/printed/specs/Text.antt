@@ -1,8 +1,8 @@
 -- The text that the program prints, in ASCII. "First line: steps, nodes, cost. Others: step, identifier, rate, limit, F full or H held. A refusal
 -- prints `REFUSED`, number, row, node." Every line ends in a line feed.
 use Rattle.std.specs.Prelude.{ℕ, zero, suc, ◌+◌, ◌/◌, ◌%◌, cond, List, [], ◌∷◌, ◌++◌, ltb}
-use Rattle.tables.specs.declared.Answer.{Answer}
-use Rattle.tables.specs.declared.Answer.TheVariants.{Accepted, Refused}
+use Rattle.tables.specs.Answer.{Answer}
+use Rattle.tables.specs.Answer.{Accepted, Refused}
 use Rattle.road.specs.Corridor.{Road, Trace}
 use Rattle.road.specs.Run.{cost}
 use Rattle.settings.specs.declared.Setting.{Setting}

@@ -1,21 +1,20 @@
 -- Refusals 7 to 12 of one node as facts: each is due exactly where its facts fail; and laws in the shape of what the code asks and returns.
-use Prim.Native.Nat.{ℕ, zero, suc, ◌+◌, ◌≤◌, ◌<◌, min}
+use Prim.Native.Nat.{ℕ, ◌+◌, ◌≤◌, min}
 use mathlib.Core.Bool.{Bool, true, false, ◌&&◌, true≢false}
-use mathlib.Core.Path.{◌≡◌, refl, sym, ap, ap₂, ◌∙◌}
+use mathlib.Core.Path.{◌≡◌, refl, sym, ap, ◌∙◌}
 use mathlib.Core.Logic.{◌↔◌, ◌≢◌}
 use native.Mathlib.Omega.{arith}
-use borrow.Author.Tests.{le-leb, lt-leb}
 use lib.Dec.{leb, eqb}
+use Rattle.std.specs.Prelude.{Option, None}
 use Rattle.tables.specs.Answer.{unless}
-use Rattle.road.specs.declared.Exit.{Exit}
-use Rattle.road.specs.declared.Exit.TheVariants.{Unsaid}
+use Rattle.road.specs.declared.Units.{Units}
 use Rattle.road.specs.declared.Junction as junctions
 use Rattle.road.specs.declared.Flows as flows
 use Rattle.road.specs.Corridor.{NodeState, Road, Flows}
 use Rattle.road.specs.Step.{Junction, sending, exit, through, outflow}
 use Rattle.road.specs.Run.{no_flow}
 use Rattle.road.specs.Values.{link_of, junction_of, flows_of}
-use Rattle.road.proofs.Rules.{flows_eq, state_eq, sending_le}
+use Rattle.road.proofs.Rules.{flows_eq, state_eq}
 use Rattle.settings.specs.Share.{Permitted}
 use Rattle.faults.specs.Lists.{implies}
 use Rattle.record_faults.specs.Records.{same_state, exit_kept, unless_then, fixed_fault, next_fault, step_fault, first_fault}
@@ -36,9 +35,6 @@ then_no_fault false x rest h p q = (λ e. absurd (h e), λ f. absurd (true≢fal
 then_passes : (t : Bool) (x rest : ℕ) → t ≡ true → unless_then t x rest ≡ rest
 then_passes t x rest e = simp e
 
-then_fails : (t : Bool) (x rest : ℕ) → t ≡ false → x ≡ unless_then t x rest
-then_fails t x rest e = simp e
-
 -- ---- 7. state 0 and the fixed zeros
 
 pub record Fixed (road : Road) (k i : ℕ) (state : NodeState) (flows : Flows) : Type 0 where
@@ -50,16 +46,16 @@ pub record Fixed (road : Road) (k i : ℕ) (state : NodeState) (flows : Flows) :
   pub exit_ramp : i ≡ road.links → flows.ramp ≡ 0
 
 -- of what a record says of an exit: zero in state K, of node 0 and of node N
-pub record NoExit (road : Road) (k i : ℕ) (said : Exit) : Type 0 where
+pub record NoExit (road : Road) (k i : ℕ) (said : Option Units) : Type 0 where
   pub last : k ≡ road.steps → exit_kept said 0 ≡ true
   pub entry : i ≡ 0 → exit_kept said 0 ≡ true
   pub end : i ≡ road.links → exit_kept said 0 ≡ true
 
 -- two counts and an exit
-zeros_hold : (x y : ℕ) (said : Exit) → ((eqb x 0 && (eqb y 0 && exit_kept said 0)) ≡ true) ↔ ((x ≡ 0) × ((y ≡ 0) × (exit_kept said 0 ≡ true)))
+zeros_hold : (x y : ℕ) (said : Option Units) → ((eqb x 0 && (eqb y 0 && exit_kept said 0)) ≡ true) ↔ ((x ≡ 0) × ((y ≡ 0) × (exit_kept said 0 ≡ true)))
 zeros_hold x y said = both_hold _ _ (eq_holds x 0) (both_hold _ _ (eq_holds y 0) (λ e. e, λ e. e))
 
-pub fixed_iff : (road : Road) (k i : ℕ) (state : NodeState) (flows : Flows) (said : Exit)
+pub fixed_iff : (road : Road) (k i : ℕ) (state : NodeState) (flows : Flows) (said : Option Units)
     → (fixed_fault road k i state flows said ≡ 0) ↔ (Fixed road k i state flows × NoExit road k i said)
 unfolding fixed_fault no_flow
 fixed_iff road k i state flows said =
@@ -95,41 +91,14 @@ unsaid : (t a b x : Bool) → (t ≡ true → x ≡ true) → implies t (a && (b
 unsaid true a b x h = ap (λ (y : Bool). a && (b && y)) (h refl)
 unsaid false a b x h = refl
 
-pub fixed_unsaid : (road : Road) (k i : ℕ) (state : NodeState) (flows : Flows) (said : Exit) → NoExit road k i said
-    → fixed_fault road k i state flows said ≡ fixed_fault road k i state flows Unsaid
+pub fixed_unsaid : (road : Road) (k i : ℕ) (state : NodeState) (flows : Flows) (said : Option Units) → NoExit road k i said
+    → fixed_fault road k i state flows said ≡ fixed_fault road k i state flows None
 unfolding fixed_fault
 fixed_unsaid road k i state flows said n =
     let last = unsaid (eqb k road.steps) (eqb flows.main 0) (eqb flows.ramp 0) (exit_kept said 0) (λ e. n.last ((eq_holds k road.steps).0 e)) in
     let entry = unsaid (eqb i 0) (eqb state.vehicles 0) (eqb flows.main 0) (exit_kept said 0) (λ e. n.entry ((eq_holds i 0).0 e)) in
     let end = unsaid (eqb i road.links) (eqb state.queue 0) (eqb flows.ramp 0) (exit_kept said 0) (λ e. n.end ((eq_holds i road.links).0 e)) in
     λ z. unless (implies (eqb k 0) (same_state state (road.node i).start) && (last z && (entry z && end z))) 7
-
--- its four tests, as calls answered them: the first that fails decides
-module _ (road : Road) (k i links steps : ℕ) (start state : NodeState) (flows : Flows) (said : Exit) (l : links ≡ road.links) (s : steps ≡ road.steps) (t : start ≡ (road.node i).start) where
-  fixed_tests : (a b c d : Bool) → a ≡ implies (eqb k 0) (same_state state start) → b ≡ implies (eqb k steps) (eqb flows.main 0 && (eqb flows.ramp 0 && exit_kept said 0))
-      → c ≡ implies (eqb i 0) (eqb state.vehicles 0 && (eqb flows.main 0 && exit_kept said 0)) → d ≡ implies (eqb i links) (eqb state.queue 0 && (eqb flows.ramp 0 && exit_kept said 0))
-      → unless (a && (b && (c && d))) 7 ≡ fixed_fault road k i state flows said
-  unfolding fixed_fault
-  fixed_tests a b c d p q r u = rw (p, q, r, u, l, s, t)
-
-  module _ (a : Bool) (p : a ≡ implies (eqb k 0) (same_state state start)) where
-    pub fixed_first : a ≡ false → 7 ≡ fixed_fault road k i state flows said
-    fixed_first h = simp (h) at (fixed_tests a _ _ _ p refl refl refl)
-
-    module _ (f : a ≡ true) (b : Bool) (q : b ≡ implies (eqb k steps) (eqb flows.main 0 && (eqb flows.ramp 0 && exit_kept said 0))) where
-      pub fixed_last : b ≡ false → 7 ≡ fixed_fault road k i state flows said
-      fixed_last h = simp (f, h) at (fixed_tests a b _ _ p q refl refl)
-
-      module _ (g : b ≡ true) (c : Bool) (r : c ≡ implies (eqb i 0) (eqb state.vehicles 0 && (eqb flows.main 0 && exit_kept said 0))) where
-        pub fixed_entry : c ≡ false → 7 ≡ fixed_fault road k i state flows said
-        fixed_entry h = simp (f, g, h) at (fixed_tests a b c _ p q r refl)
-
-        module _ (e : c ≡ true) (d : Bool) (u : d ≡ implies (eqb i links) (eqb state.queue 0 && (eqb flows.ramp 0 && exit_kept said 0))) where
-          pub fixed_exit : d ≡ false → 7 ≡ fixed_fault road k i state flows said
-          fixed_exit h = simp (f, g, e, h) at (fixed_tests a b c d p q r u)
-
-          pub fixed_none : d ≡ true → 0 ≡ fixed_fault road k i state flows said
-          fixed_none h = simp (f, g, e, h) at (fixed_tests a b c d p q r u)
 
 -- ---- 8 to 11. the flows are permitted, the exit is right where it is said, and the next state is the one that rule 6 gives
 
@@ -146,14 +115,14 @@ pub queue_iff : (queue_limit queue : ℕ) → (queue_fault queue_limit queue ≡
 queue_iff queue_limit queue = no_fault _ 12 (λ e. omega arith) (le_holds queue queue_limit)
 
 -- what a record that says an exit says: that of its f
-abbrev pub ExitRight : Junction → Flows → Exit → Type 0
+abbrev pub ExitRight : Junction → Flows → Option Units → Type 0
 ExitRight junction flows said = exit_kept said (exit flows.main junction.split) ≡ true
 
 next_iff : (moved after : NodeState) (queue_limit : ℕ) → (next_fault moved after queue_limit ≡ 0) ↔ ((after ≡ moved) × (after.queue ≤ queue_limit))
 unfolding next_fault
 next_iff moved after queue_limit = then_no_fault _ 11 _ (λ e. omega arith) (same_state_holds after moved) (queue_iff queue_limit after.queue)
 
-pub step_iff : (junction : Junction) (flows : Flows) (said : Exit) (moved after : NodeState)
+pub step_iff : (junction : Junction) (flows : Flows) (said : Option Units) (moved after : NodeState)
     → (step_fault junction flows said moved after ≡ 0)
     ↔ (Stepped junction flows moved after × ExitRight junction flows said × (after.queue ≤ junction.ramp.queue_limit))
 unfolding step_fault
@@ -171,43 +140,24 @@ step_iff junction flows said moved after =
       λ (s, x, q). r.1 (s.permitted.sent, (s.permitted.fits, (s.permitted.offered, (x, (s.moves, q))))),
     )
 
--- ---- 8 to 12, as a test that fails finds each
+first_then : (t : Bool) (rest : ℕ) → first_fault (unless t 11) rest ≡ unless_then t 11 rest
+first_then true rest = refl
+first_then false rest = refl
 
-module _ (junction : Junction) (flows : Flows) (said : Exit) (moved after : NodeState) where
-  pub step_sent : sending junction.link junction.state.vehicles junction.link.full_speed < flows.main → 8 ≡ step_fault junction flows said moved after
-  unfolding step_fault
-  step_sent h = then_fails _ 8 _ (lt-leb _ _ h)
-
-  module _ (sent : flows.main ≤ sending junction.link junction.state.vehicles junction.link.full_speed) where
-    pub step_fits : junction.supply < outflow flows junction.split → 9 ≡ step_fault junction flows said moved after
-    unfolding step_fault
-    step_fits h = sym (then_passes _ 8 _ (le-leb _ _ sent) ∙ sym (then_fails _ 9 _ (lt-leb _ _ h)))
-
-    module _ (fits : outflow flows junction.split ≤ junction.supply) where
-      pub step_offered : min junction.state.queue junction.ramp.capacity < flows.ramp → 10 ≡ step_fault junction flows said moved after
-      unfolding step_fault
-      step_offered h = sym (then_passes _ 8 _ (le-leb _ _ sent) ∙ then_passes _ 9 _ (le-leb _ _ fits) ∙ sym (then_fails _ 10 _ (lt-leb _ _ h)))
-
-  -- what is left where 8, 9 and 10 are not due: m is the state of rule 6, x and n the faults of the exit and of the next state, and r the first of them, as calls gave them
-  pub step_left : Permitted junction flows → (m : NodeState) (x n r : ℕ) → m ≡ moved → x ≡ unless (exit_kept said (exit flows.main junction.split)) 11
-      → n ≡ next_fault m after junction.ramp.queue_limit → r ≡ first_fault x n → r ≡ step_fault junction flows said moved after
-  unfolding step_fault
-  step_left permitted m x n r d e q p =
-      p
-      ∙ ap₂ first_fault e (q ∙ ap (λ (s : NodeState). next_fault s after junction.ramp.queue_limit) d)
-      ∙ first_then (exit_kept said (exit flows.main junction.split)) 10 (next_fault moved after junction.ramp.queue_limit)
-      ∙ sym
-      (then_passes _ 8 _ (le-leb _ _ permitted.sent)
-      ∙ then_passes _ 9 _ (le-leb _ _ permitted.fits)
-      ∙ then_passes _ 10 _ (le-leb _ _ permitted.offered))
-    where
-      first_then : (t : Bool) (m rest : ℕ) → first_fault (unless t (suc m)) rest ≡ unless_then t (suc m) rest
-      first_then true m rest = refl
-      first_then false m rest = refl
+-- where 8, 9 and 10 are not due: the fault of the exit, or else that of the next state
+pub exit_first : (junction : Junction) (flows : Flows) (said : Option Units) (moved after : NodeState) → Permitted junction flows
+    → step_fault junction flows said moved after
+    ≡ first_fault (unless (exit_kept said (exit flows.main junction.split)) 11) (next_fault moved after junction.ramp.queue_limit)
+unfolding step_fault
+exit_first junction flows said moved after permitted =
+    then_passes _ 8 _ ((le_holds _ _).1 permitted.sent)
+    ∙ then_passes _ 9 _ ((le_holds _ _).1 permitted.fits)
+    ∙ then_passes _ 10 _ ((le_holds _ _).1 permitted.offered)
+    ∙ sym (first_then (exit_kept said (exit flows.main junction.split)) (next_fault moved after junction.ramp.queue_limit))
 
 -- a record that says no exit is tested as one that says the right one
-pub step_unsaid : (junction : Junction) (flows : Flows) (said : Exit) (moved after : NodeState) → ExitRight junction flows said
-    → step_fault junction flows said moved after ≡ step_fault junction flows Unsaid moved after
+pub step_unsaid : (junction : Junction) (flows : Flows) (said : Option Units) (moved after : NodeState) → ExitRight junction flows said
+    → step_fault junction flows said moved after ≡ step_fault junction flows None moved after
 unfolding step_fault
 step_unsaid junction flows said moved after x =
     ap
@@ -219,7 +169,7 @@ step_unsaid junction flows said moved after x =
     x
 
 -- where 8 to 11 are not due, what is left is 12
-pub step_queue : (junction : Junction) (flows : Flows) (said : Exit) (moved after : NodeState) → Stepped junction flows moved after → ExitRight junction flows said
+pub step_queue : (junction : Junction) (flows : Flows) (said : Option Units) (moved after : NodeState) → Stepped junction flows moved after → ExitRight junction flows said
     → step_fault junction flows said moved after ≡ queue_fault junction.ramp.queue_limit after.queue
 unfolding step_fault next_fault
 step_queue junction flows said moved after s x =
@@ -237,39 +187,3 @@ pub permitted_told : (a : junctions.Junction) (f : flows.Flows) (sent part : ℕ
     → Permitted (junction_of a) (flows_of f)
 unfolding outflow
 permitted_told a f sent part e h q fits queue capacity = record { sent = omega arith; fits = omega arith; offered = omega arith }
-
--- what rule 6 asks of them
-pub moved_asks : (a : junctions.Junction) (f : flows.Flows) → Permitted (junction_of a) (flows_of f) → a.link.full_speed.0 ≤ 65536
-    → (f.main.0 ≤ a.state.vehicles.0) × (f.ramp.0 ≤ a.state.queue.0)
-moved_asks a f p h =
-    let sent = p.sent in
-    let offered = p.offered in
-    (omega (arith, sending_le (link_of a.link) a.state.vehicles.0 a.link.full_speed.0 h), omega arith)
-
--- x is not 0, so that it is the first fault
-pub first_is : (x second : ℕ) → (x ≡ 0 → ⊥) → x ≡ first_fault x second
-first_is zero second h = absurd (h refl)
-first_is (suc x) second h = refl
-
--- t is what the test of an exit against x answered, and x the right one
-pub exit_told : (said : Exit) (t : Bool) (x right : ℕ) → t ≡ exit_kept said x → x ≡ right → t ≡ exit_kept said right
-exit_told said t x right e q = e ∙ ap (exit_kept said) q
-
--- t is what a test answered
-pub unless_told : (t u : Bool) (x : ℕ) → t ≡ u → (t ≡ true → 0 ≡ unless u x) × (t ≡ false → x ≡ unless u x)
-unless_told t u x e = (λ h. simp (sym e ∙ h), λ h. simp (sym e ∙ h))
-
--- of the next state, as a test that fails finds each
-module _ (moved after : NodeState) (queue_limit : ℕ) where
-  pub next_moves : same_state after moved ≡ false → 11 ≡ next_fault moved after queue_limit
-  unfolding next_fault
-  next_moves h = then_fails _ 11 _ h
-
-  module _ (same : same_state after moved ≡ true) where
-    pub next_long : queue_limit < after.queue → 12 ≡ next_fault moved after queue_limit
-    unfolding next_fault
-    next_long h = sym (then_passes _ 11 _ same ∙ ap (λ (t : Bool). unless t 12) (lt-leb _ _ h))
-
-    pub next_none : after.queue ≤ queue_limit → 0 ≡ next_fault moved after queue_limit
-    unfolding next_fault
-    next_none h = sym (then_passes _ 11 _ same ∙ (queue_iff queue_limit after.queue).1 h)

@@ -1,8 +1,7 @@
 -- The fault of one node by refusals 7 to 12 of document 01, 7 and 11 with the exits of request 04, and that of a cost by 13: its number, or 0.
-use Rattle.std.specs.Prelude.{ℕ, zero, suc, ◌/◌, ◌%◌, min, Bool, true, false, ◌&&◌, leb, eqb}
+use Rattle.std.specs.Prelude.{ℕ, zero, suc, ◌/◌, ◌%◌, min, Bool, true, false, ◌&&◌, leb, eqb, Option, Some, None}
 use Rattle.tables.specs.Answer.{unless}
-use Rattle.road.specs.declared.Exit.{Exit}
-use Rattle.road.specs.declared.Exit.TheVariants.{Unsaid, Said}
+use Rattle.road.specs.declared.Units.{Units}
 use Rattle.road.specs.Corridor.{NodeState, Road, Flows}
 use Rattle.road.specs.Step.{Junction, sending, exit, outflow}
 use Rattle.faults.specs.Lists.{implies}
@@ -11,9 +10,9 @@ abbrev pub same_state : NodeState → NodeState → Bool
 same_state x y = eqb x.vehicles y.vehicles && eqb x.queue y.queue
 
 -- whether a record that says an off-ramp flow says this one
-abbrev pub exit_kept : Exit → ℕ → Bool
-exit_kept Unsaid flow = true
-exit_kept (Said said) flow = eqb said.0 flow
+abbrev pub exit_kept : Option Units → ℕ → Bool
+exit_kept None flow = true
+exit_kept (Some said) flow = eqb said.0 flow
 
 -- a fault's number unless the test holds, and then the rest
 abbrev pub unless_then : Bool → ℕ → ℕ → ℕ
@@ -22,7 +21,7 @@ unless_then false x rest = x
 
 -- ---- 7. state 0 not the corridor's, or a fixed zero not zero: f, r and exit in state K, n, f and exit of node 0, l, r and exit of node N
 
-unfoldable pub fixed_fault : Road → ℕ → ℕ → NodeState → Flows → Exit → ℕ
+unfoldable pub fixed_fault : Road → ℕ → ℕ → NodeState → Flows → Option Units → ℕ
 fixed_fault road k i state flows said =
     unless
     (implies (eqb k 0) (same_state state (road.node i).start)
@@ -38,7 +37,7 @@ unfoldable pub next_fault : NodeState → NodeState → ℕ → ℕ
 next_fault moved after queue_limit = unless_then (same_state after moved) 11 (unless (leb after.queue queue_limit) 12)
 
 -- at a node, with what the record says of its exit
-unfoldable pub step_fault : Junction → Flows → Exit → NodeState → NodeState → ℕ
+unfoldable pub step_fault : Junction → Flows → Option Units → NodeState → NodeState → ℕ
 step_fault junction flows said moved after =
     unless_then (leb flows.main (sending junction.link junction.state.vehicles junction.link.full_speed)) 8
     (unless_then (leb (outflow flows junction.split) junction.supply) 9

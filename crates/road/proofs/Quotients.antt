@@ -1,9 +1,13 @@
 -- Laws of products and of quotients that round down.
 use Prim.Native.Nat.{ℕ, ◌+◌, ◌-◌, ◌*◌, ◌/◌, ◌^◌, ◌≤◌, ◌<◌}
 use mathlib.Core.Path.{◌≡◌, sym, ap, ◌∙◌, subst⁻¹}
-use native.Mathlib.Nat.{le_trans, le_of_lt, lt_of_le_of_lt, mul-le-mul_left, mul-le-mul_right, mul-lt-mul_of_pos_right, mul_comm, add-mul, add-sub_of_le, div-le_of_le-mul, le-div_iff_mul-le, div-lt_iff_lt-mul, div-mul-le_self, lt-div-mul-add}
+use mathlib.Core.Logic.{⊎_elim}
+use native.Mathlib.Nat.{le_trans, le_of_lt, lt_of_le_of_lt, mul-le-mul_left, mul-le-mul_right, mul-lt-mul_of_pos_right, mul_comm, add-mul, add-sub_of_le, div-le_of_le-mul, le-div_iff_mul-le, div-mul-le_self}
 use native.Mathlib.Omega.{arith}
 use lib.Pow.{pow_pos, pow-add}
+use Rattle.std.specs.Int.{div_ceil}
+use Rattle.std.proofs.lemmas.Bool.{cases_lt}
+use Rattle.std.proofs.lemmas.Grind.{div_ceil_times}
 
 -- the product of two numbers of k bits has at most 2 k bits
 pub product_bits : (k : ℕ) {a b : ℕ} → a < 2 ^ k → b < 2 ^ k → a * b < 2 ^ (k + k)
@@ -31,15 +35,11 @@ product_grows x y b m h k = omega (arith, product_splits x y b h, mul-le-mul_lef
 
 -- the quotient of m by n rounded up: the smallest v with m ≤ n × v, where n is not 0
 abbrev pub ceiling : ℕ → ℕ → ℕ
-ceiling m n = (m + n - 1) / n
-
-pub ceiling_reaches : (m n : ℕ) → 0 < n → m ≤ n * ceiling m n
-ceiling_reaches m n p = rw (mul_comm n (ceiling m n)) (omega (arith, lt-div-mul-add {a = m + n - 1} p))
-
-pub ceiling_near : (m n : ℕ) → 0 < n → n * ceiling m n < m + n
-ceiling_near m n p = rw (mul_comm n (ceiling m n)) (omega (arith, div-mul-le_self (m + n - 1) n))
+ceiling m n = div_ceil m n
 
 pub ceiling_least : (m n v : ℕ) → 0 < n → m ≤ n * v → ceiling m n ≤ v
 ceiling_least m n v p h =
-    let k : ceiling m n < v + 1 = (div-lt_iff_lt-mul p).1 (omega (arith, add-mul v 1 n, mul_comm n v)) in
-    omega arith
+    ⊎_elim
+    (λ (k : v < ceiling m n). absurd (omega (arith, (div_ceil_times m n p).1, mul-le-mul_right n k, add-mul v 1 n, mul_comm n v)))
+    (λ (k : ceiling m n ≤ v). k)
+    (cases_lt v (ceiling m n))

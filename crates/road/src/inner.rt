@@ -6,6 +6,7 @@ ghost use Rattle.road.specs.Values.{link_of, ramp_of, state_of, junction_of, flo
 use crate::{Flows, Junction, Link, NodeState, Parts, Ramp, Speed, Units};
 
 // The whole product of two numbers.
+#[tactic(auto, using(crate::proofs::Quotients::product_bits))]
 pub fn product(a: u32, b: u32) -> u64
     ensures { result ≡ a * b }
 {
@@ -13,6 +14,7 @@ pub fn product(a: u32, b: u32) -> u64
 }
 
 // The share part / whole of x, rounded down.
+#[tactic(auto, using(crate::proofs::Quotients::share_le))]
 pub fn share(x: u32, part: u32, whole: u64) -> u32
     requires part_le_whole { part ≤ whole }
     requires whole_nonzero { 0 < whole }
@@ -22,6 +24,7 @@ pub fn share(x: u32, part: u32, whole: u64) -> u32
 }
 
 // Rule 1: what a link may discharge.
+#[tactic(auto, unfolding(crate::specs::Step::discharge))]
 pub fn discharge(link: Link, vehicles: Units) -> Units
     ensures { result.0 ≡ discharge (link_of link) vehicles.0 }
 {
@@ -33,19 +36,17 @@ pub fn discharge(link: Link, vehicles: Units) -> Units
 }
 
 // Rule 1.
+#[tactic(auto, unfolding(crate::specs::Step::sending))]
 pub fn sending(link: Link, vehicles: Units, limit: Speed) -> Units
     ensures { result.0 ≡ sending (link_of link) vehicles.0 limit.0 }
 {
     let sent = product(vehicles.0, limit.0) / 65536;
     let most = discharge(link, vehicles);
-    if sent < most.0 as u64 {
-        Units(sent as u32)
-    } else {
-        most
-    }
+    Units(sent.min(most.0 as u64) as u32)
 }
 
 // Rule 2: what leaves by the off-ramp.
+#[tactic(auto, unfolding(crate::specs::Step::exit))]
 pub fn exit(flow: Units, split: Parts) -> Units
     requires { split.0 ≤ 65536 }
     ensures { (result.0 ≡ exit flow.0 split.0) × (result.0 ≤ flow.0) }
@@ -54,6 +55,7 @@ pub fn exit(flow: Units, split: Parts) -> Units
 }
 
 // Rule 2: the rest.
+#[tactic(auto, unfolding(crate::specs::Step::through))]
 pub fn through(flow: Units, split: Parts) -> Units
     requires { split.0 ≤ 65536 }
     ensures { result.0 ≡ through flow.0 split.0 }
@@ -62,35 +64,25 @@ pub fn through(flow: Units, split: Parts) -> Units
 }
 
 // Rule 3.
+#[tactic(auto, unfolding(crate::specs::Step::offer))]
 pub fn offer(ramp: Ramp, queue: Units, rate: Units) -> Units
     ensures { result.0 ≡ offer (ramp_of ramp) queue.0 rate.0 }
 {
-    if queue.0 <= ramp.capacity.0 {
-        if queue.0 <= rate.0 { queue } else { rate }
-    } else {
-        if ramp.capacity.0 <= rate.0 {
-            ramp.capacity
-        } else {
-            rate
-        }
-    }
+    Units(queue.0.min(ramp.capacity.0).min(rate.0))
 }
 
 // Rule 4.
+#[tactic(auto, unfolding(crate::specs::Step::receiving))]
 pub fn receiving(link: Link, vehicles: Units) -> Units
     requires { vehicles.0 ≤ link.jam.0 }
     ensures { result.0 ≡ receiving (link_of link) vehicles.0 }
 {
     let room = product(link.wave_speed.0, link.jam.0 - vehicles.0) / 65536;
-    let most = link.capacity;
-    if room < most.0 as u64 {
-        Units(room as u32)
-    } else {
-        most
-    }
+    Units(room.min(link.capacity.0 as u64) as u32)
 }
 
 // Rule 5.
+#[tactic(auto, using(crate::proofs::Rules::passed_free, crate::proofs::Rules::passed_tight), unfolding(crate::specs::Step::merge))]
 pub fn merge(sent: Units, offered: Units, split: Parts, supply: Units) -> Flows
     requires { split.0 ≤ 65536 }
     ensures { flows_of result ≡ merge sent.0 offered.0 split.0 supply.0 }
@@ -111,6 +103,7 @@ pub fn merge(sent: Units, offered: Units, split: Parts, supply: Units) -> Flows
 }
 
 // Rules 1 to 5 at a metering rate and a posted limit.
+#[tactic(auto, unfolding(crate::specs::Step::flows_with))]
 pub fn flows_with(junction: Junction, rate: Units, limit: Speed) -> Flows
     requires { junction.split.0 ≤ 65536 }
     ensures { flows_of result ≡ flows_with (junction_of junction) rate.0 limit.0 }
@@ -121,6 +114,7 @@ pub fn flows_with(junction: Junction, rate: Units, limit: Speed) -> Flows
 }
 
 // What a node passes into the next link.
+#[tactic(auto, using(crate::proofs::Rules::through_le), unfolding(crate::specs::Step::outflow))]
 pub fn outflow(flows: Flows, split: Parts) -> Units
     requires split_bound { split.0 ≤ 65536 }
     requires ramp_bound { flows.main.0 + flows.ramp.0 ≤ 4294967295 }
@@ -130,6 +124,7 @@ pub fn outflow(flows: Flows, split: Parts) -> Units
 }
 
 // Rule 6.
+#[tactic(auto, unfolding(crate::specs::Step::moved))]
 pub fn moved(state: NodeState, inflow: Units, arrivals: Units, flows: Flows) -> NodeState
     requires main_le_vehicles { (flows.main.0 ≤ state.vehicles.0) × (flows.ramp.0 ≤ state.queue.0) }
     requires inflow_bound { (state.vehicles.0 + inflow.0 ≤ 4294967295) × (state.queue.0 + arrivals.0 ≤ 4294967295) }

@@ -4,7 +4,7 @@
 pub mod inner;
 
 // A vehicle count or a flow per step, in 1/64 vehicle.
-#[derive(Clone, Copy)]
+#[derive(Clone, Copy, PartialEq, Eq)]
 pub struct Units(pub u32);
 
 // A speed, in 1/65,536 section per step.
@@ -34,7 +34,7 @@ pub struct Ramp {
 }
 
 // The vehicles n of a node's link and the queue l of its ramp.
-#[derive(Clone, Copy)]
+#[derive(Clone, Copy, PartialEq, Eq)]
 pub struct NodeState {
     pub vehicles: Units,
     pub queue: Units,
@@ -51,15 +51,8 @@ pub struct Junction {
 }
 
 // The mainline flow f and the ramp flow r of a node.
-#[derive(Clone, Copy)]
+#[derive(Clone, Copy, PartialEq, Eq)]
 pub struct Flows {
     pub main: Units,
     pub ramp: Units,
-}
-
-// What a record says of the flow that leaves by a node's off-ramp: nothing in kind 3, which has no word for it, and a flow in kind 7.
-#[derive(Clone, Copy)]
-pub enum Exit {
-    Unsaid,
-    Said(Units),
 }

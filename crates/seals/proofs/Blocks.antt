@@ -8,10 +8,11 @@ use native.Mathlib.Omega.{arith}
 use borrow.Author.Tests.{lt-ltb, le-ltb}
 use borrow.Rule.Slice.PartMut.{put_mid}
 use lib.Dec.{ltb, lit<}
-use lib.ListN.{length, get_or, take, drop, get_or-eq_default}
+use lib.ListN.{length, get_or, take, drop, replicate, get_or-eq_default}
+use Rattle.std.proofs.lemmas.List.{length-replicate, get_or-replicate}
 use Rattle.tables.specs.Grid.{cell}
 use Rattle.tables.proofs.Grid.{row_words_is, row_words_same, cell_same, Rowed, rowed_words, rowed_grid}
-use Rattle.tables.proofs.Part.{part_length, part_at}
+use Rattle.tables.proofs.Part.{part_length, part_at, put_length, put_before, put_within}
 use Rattle.tables.proofs.Tabulate.{tabulate_length, tabulate_at, tabulate_past, filled_rest}
 use Rattle.payload.specs.Word.{Bytes, Words, byte_of, word_at, put_word}
 use Rattle.payload.specs.Block.{check_word, body_word, block_word, block_byte, block_of}
@@ -83,49 +84,54 @@ block_same kind number p q h j l =
       | no b ↦ rw (le-ltb j 127 (omega arith)) (check_same (body_word kind number p) (body_word kind number q) body)
     ]
 
--- ---- as a loop's invariant: payload words left to i - 1 of a block are zeros
+-- ---- the bytes of a block from `at` on, k of them, are filled with zeros: ys is what they are then, and the check word is among them
 
-pub record Clearing (i left : ℕ) (d l : List ℕ) : Type 0 where
-  pub from : left ≤ i
-  pub same : length l ≡ length d
-  pub zeros : (k : ℕ) → left ≤ k → k < i → word_at l (2 + k) ≡ 0
-  pub others : (j : ℕ) → j < 2 + left → word_at l j ≡ word_at d j
+module _ (left at k m : ℕ) (d l ys : List ℕ) (n : length d ≡ 512) (s : at ≡ (2 + min left 125) * 4) (c : at + k ≡ 512)
+    (z : ys ≡ replicate m 0) (q : m ≡ k) (e : l ≡ put_mid at k d ys) where
+  is : l ≡ put_mid at (at + k - at) d ys
+  is = let t : k ≡ at + k - at = omega arith in e ∙ ap (λ (x : ℕ). put_mid at x d ys) t
 
-pub clearing_begun : (left : ℕ) (d : List ℕ) → Clearing left left d d
-clearing_begun left d = record { from = omega arith; same = refl; zeros = λ k a b. absurd (omega arith); others = λ j h. refl }
+  size : length ys ≡ k
+  size = ap length z ∙ length-replicate m 0 ∙ q
 
-pub clearing_more : (i left : ℕ) (d l l' : List ℕ) → Clearing i left d l → i < 125 → length d ≡ 512 → l' ≡ put_word l (2 + i) 0 → Clearing (i + 1) left d l'
-clearing_more i left d l l' a h n e =
-    record {
-      from = omega (arith, a.from);
-      same = ap length e ∙ put_word_length l (2 + i) 0 ∙ a.same;
-      zeros = λ k b c.
-          elim (dec_lt k i) [
-            | yes s ↦ ap (λ (x : List ℕ). word_at x (2 + k)) e ∙ word_other l (2 + i) 0 (2 + k) (λ t. omega arith) ∙ a.zeros k b s
-            | no s ↦
-                let t : k ≡ i = omega arith in
-                ap (λ (x : List ℕ). word_at x (2 + k)) e ∙ ap (λ (q : ℕ). word_at (put_word l (2 + i) 0) (2 + q)) t ∙ word_put l (2 + i) 0 (omega (arith, a.same)) (lit< tt)
-          ];
-      others = λ j b. ap (λ (x : List ℕ). word_at x j) e ∙ word_other l (2 + i) 0 j (λ t. omega (arith, a.from)) ∙ a.others j b;
-    }
+  kept_byte : (j : ℕ) → j < at → get_or l j 0 ≡ get_or d j 0
+  kept_byte j h = ap (λ (x : List ℕ). get_or x j 0) is ∙ put_before at k d ys (omega arith) size j 0 h
 
--- the word that is put in the place of the check word has no part in what is promised
-pub clearing_ended : (i left : ℕ) (d l l' : List ℕ) → Clearing i left d l → 125 ≤ i → l' ≡ put_word l 127 0 → Cleared d left l'
-unfolding kept_word
-clearing_ended i left d l l' a h e =
-    record {
-      same = ap length e ∙ put_word_length l 127 0 ∙ a.same;
-      head = λ j b. before j (omega arith) ∙ a.others j (omega arith);
-      payload = λ k b.
-          before (2 + k) (omega arith)
-          ∙ elim (dec_lt k left) [
-            | yes s ↦ a.others (2 + k) (omega arith) ∙ sym (rw (lt-ltb k left s) refl)
-            | no s ↦ a.zeros k (omega arith) (omega arith) ∙ sym (rw (le-ltb k left (omega arith)) refl)
-          ];
-    }
-  where
-    before : (j : ℕ) → j < 127 → word_at l' j ≡ word_at l j
-    before j b = ap (λ (x : List ℕ). word_at x j) e ∙ word_other l 127 0 j (λ t. omega arith)
+  filled_byte : (i : ℕ) → i < k → get_or l (at + i) 0 ≡ 0
+  filled_byte i h =
+      ap (λ (x : List ℕ). get_or x (at + i) 0) is
+      ∙ put_within at k d ys (omega arith) size i 0 h
+      ∙ ap (λ (x : List ℕ). get_or x i 0) z
+      ∙ get_or-replicate m i 0 0 (omega arith)
+
+  zero_byte : (j : ℕ) → at ≤ j → j < 512 → get_or l j 0 ≡ 0
+  zero_byte j a b = let t : at + (j - at) ≡ j = omega arith in ap (λ (x : ℕ). get_or l x 0) (sym t) ∙ filled_byte (j - at) (omega arith)
+
+  kept_before : (j : ℕ) → j < 2 + min left 125 → word_at l j ≡ word_at d j
+  kept_before j h = word_same l d j j (λ i b. kept_byte (j * 4 + i) (omega arith))
+
+  zero_after : (j : ℕ) → 2 + min left 125 ≤ j → j < 128 → word_at l j ≡ 0
+  unfolding word_at
+  zero_after j a b =
+      rw (
+        zero_byte (j * 4) (omega arith) (omega arith),
+        zero_byte (j * 4 + 1) (omega arith) (omega arith),
+        zero_byte (j * 4 + 2) (omega arith) (omega arith),
+        zero_byte (j * 4 + 3) (omega arith) (omega arith),
+      )
+
+  pub cleared : Cleared d left l
+  unfolding kept_word
+  cleared =
+      record {
+        same = ap length is ∙ put_length at k d ys (omega arith) size;
+        head = λ j b. kept_before j (omega arith);
+        payload = λ i b.
+            elim (dec_lt i left) [
+              | yes h ↦ kept_before (2 + i) (omega arith) ∙ sym (rw (lt-ltb i left h) refl)
+              | no h ↦ zero_after (2 + i) (omega arith) (omega arith) ∙ sym (rw (le-ltb i left (omega arith)) refl)
+            ];
+      }
 
 -- ---- a sealed block: a, b, c and l are the block as each call left it
 

@@ -6,8 +6,8 @@ use Prim.Native.Nat.{ℕ, zero, suc, ◌+◌, ◌-◌, ◌*◌, ◌≤◌, ◌<�
 use native.Mathlib.Omega.{arith}
 use lib.Dec.{eqb}
 use lib.ListN.{length}
-use Rattle.tables.specs.declared.Answer.{Answer}
-use Rattle.tables.specs.declared.Answer.TheVariants.{Accepted, Refused}
+use Rattle.tables.specs.Answer.{Answer}
+use Rattle.tables.specs.Answer.{Accepted, Refused}
 use Rattle.tables.specs.Answer.{number_of, row_of, node_of, is_refused, or_else}
 use Rattle.tables.specs.First.{first}
 use Rattle.payload.specs.File.{blocks_for, word_in, payload_word}

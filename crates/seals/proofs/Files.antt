@@ -9,7 +9,7 @@ use native.Mathlib.Omega.{arith}
 use borrow.Author.Tests.{eq-eqb, ne_eqb}
 use lib.Dec.{lit<}
 use lib.ListN.{length, get_or, get_or-eq_default}
-use Rattle.tables.specs.declared.Answer.TheVariants.{Accepted, Refused}
+use Rattle.tables.specs.Answer.{Accepted, Refused}
 use Rattle.tables.specs.First.{first}
 use Rattle.tables.specs.Grid.{grid, place}
 use Rattle.tables.proofs.First.{first_accepts, first_refuses}

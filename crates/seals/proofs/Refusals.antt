@@ -9,8 +9,8 @@ use native.Mathlib.Omega.{arith}
 use borrow.Author.Tests.{eq-eqb, eqb-true}
 use lib.Dec.{eqb}
 use lib.ListN.{length}
-use Rattle.tables.specs.declared.Answer.{Answer}
-use Rattle.tables.specs.declared.Answer.TheVariants.{Accepted}
+use Rattle.tables.specs.Answer.{Answer}
+use Rattle.tables.specs.Answer.{Accepted}
 use Rattle.tables.specs.Answer.{or_else}
 use Rattle.tables.specs.First.{first}
 use Rattle.tables.proofs.Answers.{Refuses, or_else_accepts, or_else_stop, or_else_next, refusal_unless}
@@ -82,9 +82,6 @@ unfolding padding_answer
 padding_told m file i w blocks a e q p = p ∙ rw (e, q)
 
 -- ---- 14 to 18: s is what the test of the length answered, and a what the blocks answered
-
-pub length_kept : (file : List ℕ) (blocks : ℕ) (s : Answer) → s ≡ tested (eqb (length file) (blocks * 512)) 14 0 → s ≡ Accepted → length file ≡ blocks * 512
-length_kept file blocks s p h = eqb-true _ _ ((tested_holds (eqb (length file) (blocks * 512)) 14 0 (omega arith)).0 (sym p ∙ h))
 
 module _ (kind m : ℕ) (file : List ℕ) (blocks : ℕ) (q : blocks ≡ blocks_for m) (s : Answer) (p : s ≡ tested (eqb (length file) (blocks * 512)) 14 0) where
   sized : s ≡ length_answer m file

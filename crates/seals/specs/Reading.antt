@@ -1,6 +1,6 @@
 -- What refuses a file of m payload words: 14, then 15, 16, 17 block by block, then 18.
 use Rattle.std.specs.Prelude.{Bool, List, ℕ, ◌+◌, ◌-◌, ◌*◌, eqb, length}
-use Rattle.tables.specs.declared.Answer.{Answer}
+use Rattle.tables.specs.Answer.{Answer}
 use Rattle.tables.specs.Answer.{or_else, refusal, unless}
 use Rattle.tables.specs.First.{first}
 use Rattle.payload.specs.Block.{check_word}

@@ -1,67 +1,39 @@
 -- Laws of one node in one step of a record, in the shape of what the code asks and returns.
-use Prim.Native.Nat.{ℕ, suc, ◌+◌, ◌-◌, ◌*◌, ◌≤◌, ◌<◌}
-use mathlib.Core.Bool.{Bool, true, false, ◌&&◌}
+use Prim.Native.Nat.{ℕ, suc, ◌+◌, ◌*◌, ◌≤◌, ◌<◌}
+use mathlib.Core.Bool.{Bool, true, ◌&&◌}
 use mathlib.Core.List.{List}
-use mathlib.Core.Path.{◌≡◌, sym, ap, ◌∙◌}
+use mathlib.Core.Path.{◌≡◌, sym, ap, subst₂, ◌∙◌}
 use native.Mathlib.Omega.{arith}
-use borrow.Author.Tests.{lt-ltb, le-ltb, le-leb, lt-leb, ltb-true, leb-true}
+use borrow.Author.Tests.{ltb-true, leb-true}
 use lib.Dec.{ltb, leb}
-use lib.ListN.{length, take, drop}
-use Rattle.tables.specs.declared.Answer.{Answer}
-use Rattle.tables.specs.declared.Answer.TheVariants.{Accepted}
+use lib.ListN.{length}
+use Rattle.tables.specs.Answer.{Answer}
+use Rattle.tables.specs.Answer.{Accepted}
 use Rattle.tables.specs.Answer.{sized}
-use Rattle.tables.proofs.Answers.{Refuses}
+use Rattle.tables.proofs.Answers.{Refuses, or_else_accepts, sized_iff}
 use Rattle.tables.proofs.Tests.{and_iff}
 use Rattle.road.specs.declared.Junction as junctions
 use Rattle.road.specs.declared.Flows as flows
 use Rattle.road.specs.Run.{junction}
 use Rattle.road.specs.Values.{junction_of, flows_of}
-use Rattle.faults.proofs.Tests.{told_true, told_false}
 use Rattle.lists.specs.Words.{links_of, steps_of, downstream_word, road_of, width_of}
-use Rattle.lists.specs.Rows.{state_in, flows_in, step_road}
-use Rattle.lengths.specs.Lengths.{sizes}
+use Rattle.lists.specs.Rows.{lent, state_in, flows_in, step_road}
+use Rattle.lengths.specs.Lengths.{record_sized, sizes}
 use Rattle.convert.specs.Refusals.{judged}
 use Rattle.convert.specs.Rows.{Ready}
 use Rattle.convert.specs.Convert.{check_answer}
 use Rattle.convert_rows.specs.Rows.{RowsKept}
 use Rattle.convert_rows.proofs.Steps.{split_kept}
 use Rattle.convert.proofs.Answers.{also_sized, also_checks, also_kept}
-use Rattle.convert.proofs.Rows.{row_junction, demand_lent, trace_lent, plan_row_kept}
+use Rattle.convert.proofs.Rows.{row_junction, demand_viewed, record_viewed, plan_row_kept}
 use Rattle.search.specs.Search.{place_answer}
+use Rattle.search.specs.declared.inner.Place.{Place}
 use Rattle.search.specs.Places.{PlaceAt}
 
 -- ---- whether the step is below K and the node up to N
 
 abbrev pub place_test : List ℕ → List ℕ → ℕ → ℕ → Bool → Bool
 place_test corridor demands step node fits = sizes corridor demands && (ltb step (steps_of demands) && (leb node (links_of corridor) && fits))
-
--- t is what the test of the sizes answered, and links and steps are N and K as the code has them
-module _ (corridor demands : List ℕ) (step node : ℕ) (fits t : Bool) (e : t ≡ sizes corridor demands) where
-  pub place_unsized : t ≡ false → false ≡ place_test corridor demands step node fits
-  place_unsized h = ap (λ (x : Bool). x && (ltb step (steps_of demands) && (leb node (links_of corridor) && fits))) (sym (told_false t _ e h))
-
-  module _ (h : t ≡ true) (steps : ℕ) (k : steps ≡ steps_of demands) where
-    sized_is : true ≡ sizes corridor demands
-    sized_is = sym (told_true t _ e h)
-
-    pub place_late : steps ≤ step → false ≡ place_test corridor demands step node fits
-    place_late l =
-        let no : false ≡ ltb step (steps_of demands) = sym (le-ltb step (steps_of demands) (omega arith)) in
-        λ z. sized_is z && (no z && (leb node (links_of corridor) && fits))
-
-    module _ (l : step < steps) (links : ℕ) (n : links ≡ links_of corridor) where
-      early_is : true ≡ ltb step (steps_of demands)
-      early_is = sym (lt-ltb step (steps_of demands) (omega arith))
-
-      pub place_past : links < node → false ≡ place_test corridor demands step node fits
-      place_past p =
-          let no : false ≡ leb node (links_of corridor) = sym (lt-leb node (links_of corridor) (omega arith)) in
-          λ z. sized_is z && (early_is z && (no z && fits))
-
-      pub place_here : node ≤ links → fits ≡ place_test corridor demands step node fits
-      place_here p =
-          let yes : true ≡ leb node (links_of corridor) = sym (le-leb node (links_of corridor) (omega arith)) in
-          λ z. sized_is z && (early_is z && (yes z && fits))
 
 -- ---- the refusals: t and a are what these tests answered, as a test and as an answer
 
@@ -90,29 +62,38 @@ place_asks corridor demands words step node fits a e g =
     let (here, room) = (and_iff (leb node (links_of corridor)) fits).0 rest in
     (record { ready = k; accepted = j; early = ltb-true step (steps_of demands) early; here = leb-true node (links_of corridor) here }, room)
 
--- ---- the rows of step k as the code lends them: r and `at` are where they start, past the demands' first word and in the record, and w how many words
--- the record's row has
+-- ---- the rows of step k, as the lists' views give them
 
 module _ (width : ℕ) (corridor demands words : List ℕ) (links steps : ℕ) (ready : Ready width corridor demands words links steps)
-    (accepted : judged width (road_of corridor demands) words ≡ Accepted) (k r at w : ℕ) (e : r ≡ k * ((links + 1) * 2)) (q : at ≡ k * w) (v : w ≡ suc links * width) (hk : k < steps) where
-  abbrev demand_row : List ℕ
-  demand_row = take (1 + r + (links + 1) * 2 - (1 + r)) (drop (1 + r) demands)
+    (accepted : judged width (road_of corridor demands) words ≡ Accepted) (k l m w : ℕ) (demand row : List ℕ)
+    (a : l ≡ links) (b : m ≡ links) (e : w ≡ width) (hk : k < steps)
+    (d : demand ≡ lent (1 + k * (suc l * 2)) (suc l * 2) demands) (t : row ≡ lent (k * (suc m * width)) (suc m * width) words) where
+  pub place_rows : RowsKept w corridor demand row links
+  place_rows =
+      (plan_row_kept width corridor demands words links steps ready k demand row
+      (demand_viewed width corridor demands words links steps ready k l demand a hk d)
+      (record_viewed width corridor demands words links steps ready k k m row b (omega arith) t) hk accepted w e).0
 
-  abbrev trace_row : List ℕ
-  trace_row = take (at + w - at) (drop at words)
-
-  pub place_rows : RowsKept width corridor (take (1 + r + (links + 1) * 2 - (1 + r)) (drop (1 + r) demands)) (take (at + w - at) (drop at words)) links
-  place_rows = plan_row_kept width corridor demands words links steps ready k r at w e q v hk accepted
-
-  pub place_told : (downstream i : ℕ) → downstream ≡ downstream_word demands links steps k → i ≤ links → (a : junctions.Junction) (f : flows.Flows)
-      → junction_of a ≡ junction (step_road corridor (take (1 + r + (links + 1) * 2 - (1 + r)) (drop (1 + r) demands)) downstream) 0 (state_in width (take (at + w - at) (drop at words))) i
-      → flows_of f ≡ flows_in width (take (at + w - at) (drop at words)) i → PlaceAt width corridor demands words k i (record { junction = a; flows = f })
-  place_told downstream i d h a f j t =
+  pub place_told : (downstream i : ℕ) → downstream ≡ downstream_word demands l steps k → i ≤ links → (x : junctions.Junction) (f : flows.Flows)
+      → junction_of x ≡ junction (step_road corridor demand downstream) 0 (state_in w row) i → flows_of f ≡ flows_in w row i
+      → PlaceAt width corridor demands words k i (record { junction = x; flows = f })
+  place_told downstream i q h x f j s =
       let n : links ≡ links_of corridor = ready.corridor_fits.first in
       let hi : i ≤ links_of corridor = omega arith in
-      let row = trace_lent width corridor demands words links steps ready k k at w q v in
+      let says = (demand_viewed width corridor demands words links steps ready k l demand a hk d).0 in
+      let holds = (record_viewed width corridor demands words links steps ready k k m row b (omega arith) t).0 in
       record {
-        junction = j ∙ row_junction width corridor demands words links steps ready k demand_row trace_row (demand_lent width corridor demands words links steps ready k r e) row downstream d i hi;
-        flows = t ∙ row.flows i hi;
-        split = split_kept width corridor demand_row trace_row links place_rows downstream i h a j;
+        junction =
+            j
+            ∙ ap (λ (v : ℕ). junction (step_road corridor demand downstream) 0 (state_in v row) i) e
+            ∙ row_junction width corridor demands words links steps ready k demand row says holds downstream
+            (q ∙ ap (λ (v : ℕ). downstream_word demands v steps k) a) i hi;
+        flows = s ∙ ap (λ (v : ℕ). flows_in v row i) e ∙ holds.flows i hi;
+        split = split_kept w corridor demand row links place_rows downstream i h x j;
       }
+
+-- a place in lists that are the same
+pub place_same : (width w : ℕ) (corridor c demands d words l : List ℕ) (step node : ℕ) (here : Place) → width ≡ w → corridor ≡ c → demands ≡ d → words ≡ l
+    → PlaceAt width corridor demands words step node here → PlaceAt w c d l step node here
+place_same width w corridor c demands d words l step node here e p q r h =
+    subst₂ (λ (x y : List ℕ). PlaceAt w c x y step node here) q r (subst₂ (λ (n : ℕ) (x : List ℕ). PlaceAt n x demands words step node here) e p h)

@@ -1,9 +1,8 @@
 -- Laws of the three words of a search.
 use Prim.Native.Nat.{ℕ}
-use mathlib.Core.List.{List, [], ◌∷◌}
-use mathlib.Core.Path.{◌≡◌, refl, ap, ap₂, ◌∙◌}
-use native.Mathlib.Omega.{arith}
-use lib.ListN.{length, set}
+use mathlib.Core.List.{List}
+use mathlib.Core.Path.{◌≡◌, ap, ap₂, ◌∙◌}
+use lib.ListN.{length}
 use Rattle.road.specs.Values.{junction_of, flows_of}
 use Rattle.settings.specs.declared.Search.{Search}
 use Rattle.settings.specs.Rate.{search}
@@ -11,14 +10,6 @@ use Rattle.lists.specs.Words.{width_of}
 use Rattle.search.specs.declared.inner.Place.{Place}
 use Rattle.search.specs.Places.{PlaceAt}
 use Rattle.search.specs.Search.{search_at, search_words, searched}
-
--- three words stored, one after another
-pub three_set : (list : List ℕ) (a b c : ℕ) → length list ≡ 3 → set (set (set list 0 a) 1 b) 2 c ≡ a ∷ b ∷ c ∷ []
-three_set [] a b c e = absurd (omega arith)
-three_set (x ∷ []) a b c e = absurd (omega arith)
-three_set (x ∷ y ∷ []) a b c e = absurd (omega arith)
-three_set (x ∷ y ∷ z ∷ []) a b c e = refl
-three_set (x ∷ y ∷ z ∷ w ∷ rest) a b c e = absurd (omega arith)
 
 -- p is the place as a call gave it, and done what the search there came to
 pub search_told : (corridor demands words : List ℕ) (step node : ℕ) (p : Place) (done : Search) → PlaceAt (width_of corridor demands (length words)) corridor demands words step node p

@@ -1,11 +1,10 @@
 -- Request 02 at one node and step of a record: what the search for its rate comes to, in three words, and what the call refuses.
-use Rattle.std.specs.Prelude.{ℕ, Bool, ◌&&◌, List, [], ◌∷◌, length, ltb, leb, eqb}
-use Rattle.tables.specs.declared.Answer.{Answer}
+use Rattle.std.specs.Prelude.{ℕ, Bool, ◌&&◌, List, [], ◌∷◌, length, ltb, leb, eqb, Option, Some, None}
+use Rattle.tables.specs.Answer.{Answer}
 use Rattle.tables.specs.Answer.{left}
+use Rattle.road.specs.declared.Units.{Units}
 use Rattle.road.specs.Corridor.{Road, Trace}
 use Rattle.road.specs.Run.{junction}
-use Rattle.settings.specs.declared.Found.{Found}
-use Rattle.settings.specs.declared.Found.TheVariants.{Rate, Nothing}
 use Rattle.settings.specs.declared.Search.{Search}
 use Rattle.settings.specs.Rate.{search}
 use Rattle.lists.specs.Words.{links_of, steps_of, road_of, trace_of, width_of}
@@ -16,14 +15,14 @@ unfoldable pub search_at : Road → Trace → ℕ → ℕ → Search
 search_at road trace k i = search (junction road k (trace.state k) i) (trace.flows k i)
 
 -- 1 if a rate was found, else 0
-abbrev pub found_word : Found → ℕ
-found_word (Rate rate) = 1
-found_word Nothing = 0
+abbrev pub found_word : Option Units → ℕ
+found_word (Some rate) = 1
+found_word None = 0
 
 -- the rate, or 0
-abbrev pub rate_word : Found → ℕ
-rate_word (Rate rate) = rate.0
-rate_word Nothing = 0
+abbrev pub rate_word : Option Units → ℕ
+rate_word (Some rate) = rate.0
+rate_word None = 0
 
 unfoldable pub search_words : Search → List ℕ
 search_words done = done.tries ∷ found_word done.found ∷ rate_word done.found ∷ []

@@ -2,9 +2,10 @@
 #![tactic(auto)]
 
 ghost use Rattle.std.specs.Prelude.{◌≡◌, length};
+ghost use Rattle.tables.specs.Answer.{answer_of};
 ghost use Rattle.search.specs.Search.{search_answer, search_left};
 
-use tables::{Answer, is_refused};
+use tables::Answer;
 
 pub mod inner;
 
@@ -18,14 +19,11 @@ pub fn search(
     node: u32,
     out: &mut [u32],
 ) -> Answer
-    ensures answered { result ≡ search_answer corridor.now demands.now words.now step node (length out.old) }
+    ensures answered { answer_of result ≡ search_answer corridor.now demands.now words.now step node (length out.old) }
     ensures written { out.new ≡ search_left corridor.now demands.now words.now step node out.old }
 {
-    let answer = inner::place_answer(corridor, demands, words, step, node, out.len() == 3);
-    if is_refused(answer) {
-        return answer;
-    }
+    inner::place_answer(corridor, demands, words, step, node, out.len() == 3)?;
     let place = inner::place_of(corridor, demands, words, step, node);
     inner::put_search(settings::inner::search(place.junction, place.flows), out);
-    answer
+    Ok(())
 }

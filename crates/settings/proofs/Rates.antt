@@ -5,17 +5,16 @@ use mathlib.Core.Path.{◌≡◌, refl, sym, ap, subst, ◌∙◌}
 use mathlib.Core.Logic.{◌↔◌, ⊎_elim}
 use native.Mathlib.Omega.{arith}
 use borrow.Author.Tests.{leb-true, eqb-true, le-leb, eq-eqb}
-use Rattle.tables.specs.declared.Halved.{Halved}
+use Rattle.std.specs.Prelude.{Option, Some, None}
 use Rattle.tables.specs.Least.{least}
 use Rattle.tables.proofs.Numbers.{le_or_lt, not_both}
 use Rattle.tables.proofs.Tests.{and_iff}
 use Rattle.tables.proofs.Least.{least_bound, least_below, least_fails, Searchable, searched_passes, searched_fails}
 use Rattle.tables.proofs.Halving.{halving_rate}
+use Rattle.road.specs.declared.Units.{Units}
 use Rattle.road.specs.Corridor.{Flows}
 use Rattle.road.specs.Step.{Junction}
 use Rattle.road.proofs.Rules.{flows_eq, main_falls, ramp_rises}
-use Rattle.settings.specs.declared.Found.{Found}
-use Rattle.settings.specs.declared.Found.TheVariants.{Rate, Nothing}
 use Rattle.settings.specs.declared.Search.{Search}
 use Rattle.settings.specs.Rate.{full_flows, gives, reaches, candidate, search, rate_for}
 use Rattle.settings.specs.Share.{Gives, Finds}
@@ -77,7 +76,7 @@ module _ (junction : Junction) (wanted : Flows) where
 
   -- by cases of whether the smallest that passes, or C, passes
   finds_by : (t : Bool) → gives junction wanted (least (gives junction wanted) junction.ramp.capacity) ≡ t
-      → Finds junction wanted (cond t (Rate (record { 0 = least (gives junction wanted) junction.ramp.capacity })) Nothing)
+      → Finds junction wanted (cond t (Some (record { 0 = least (gives junction wanted) junction.ramp.capacity })) None)
   finds_by true e =
       record {
         gives = gives_flows _ e;
@@ -93,17 +92,17 @@ module _ (junction : Junction) (wanted : Flows) where
   rate_finds = finds_by (gives junction wanted (least (gives junction wanted) junction.ramp.capacity)) refl
 
   -- and no other answer is right
-  finds_once : (x y : Found) → Finds junction wanted x → Finds junction wanted y → x ≡ y
-  finds_once (Rate x) (Rate y) h k =
+  finds_once : (x y : Option Units) → Finds junction wanted x → Finds junction wanted y → x ≡ y
+  finds_once (Some x) (Some y) h k =
       let e : x.0 ≡ y.0 = omega (arith, h.least y.0 k.gives, k.least x.0 h.gives) in
-      λ i. Rate (record { 0 = e i })
-  finds_once (Rate x) Nothing h k = absurd (k x.0 h.within h.gives)
-  finds_once Nothing (Rate y) h k = absurd (h y.0 k.within k.gives)
-  finds_once Nothing Nothing h k = refl
+      λ i. Some (record { 0 = e i })
+  finds_once (Some x) None h k = absurd (k x.0 h.within h.gives)
+  finds_once None (Some y) h k = absurd (h y.0 k.within k.gives)
+  finds_once None None h k = refl
 
-  pub rate_iff : (found : Found) → (rate_for junction wanted ≡ found) ↔ Finds junction wanted found
+  pub rate_iff : (found : Option Units) → (rate_for junction wanted ≡ found) ↔ Finds junction wanted found
   rate_iff found =
-      (λ e. subst (λ (x : Found). Finds junction wanted x) e rate_finds, λ h. finds_once (rate_for junction wanted) found rate_finds h)
+      (λ e. subst (λ (x : Option Units). Finds junction wanted x) e rate_finds, λ h. finds_once (rate_for junction wanted) found rate_finds h)
 
   -- ---- halving comes to the same
 
@@ -113,7 +112,7 @@ module _ (junction : Junction) (wanted : Flows) where
   candidate_is = halving_rate (reaches junction wanted) searchable.upward junction.ramp.capacity
 
   -- by whether it gives the flows
-  decides : (rate : ℕ) (t : Bool) → rate ≡ least (reaches junction wanted) junction.ramp.capacity → gives junction wanted rate ≡ t → cond t (Rate (record { 0 = rate })) Nothing ≡ rate_for junction wanted
+  decides : (rate : ℕ) (t : Bool) → rate ≡ least (reaches junction wanted) junction.ramp.capacity → gives junction wanted rate ≡ t → cond t (Some (record { 0 = rate })) None ≡ rate_for junction wanted
   unfolding rate_for
   decides rate true q e =
       let t : least (gives junction wanted) junction.ramp.capacity ≡ rate =
@@ -121,7 +120,7 @@ module _ (junction : Junction) (wanted : Flows) where
       rw (t, e)
   decides rate false q e =
       sym
-      ((rate_iff Nothing).1
+      ((rate_iff None).1
       (λ other h g.
       not_both (gives junction wanted other) (flows_gives other g)
       (searched_fails _ _ _ searchable (subst (λ (x : ℕ). gives junction wanted x ≡ false) q e) other h)))
@@ -130,14 +129,6 @@ module _ (junction : Junction) (wanted : Flows) where
   pub search_found : (search junction wanted).found ≡ rate_for junction wanted
   unfolding search
   search_found = decides (candidate junction wanted).rate (gives junction wanted (candidate junction wanted).rate) candidate_is refl
-
-  -- as the code has it: `last` is the one left, t whether it gives the flows
-  pub search_as : (last : Halved) (t : Bool) → last ≡ candidate junction wanted → t ≡ gives junction wanted last.rate
-      → record { found = cond t (Rate (record { 0 = last.rate })) Nothing; tries = last.tries } ≡ search junction wanted
-  unfolding search
-  search_as last t e q =
-      (λ z. record { found = cond (q z) (Rate (record { 0 = last.rate })) Nothing; tries = last.tries })
-      ∙ (λ z. record { found = cond (gives junction wanted (e z).rate) (Rate (record { 0 = (e z).rate })) Nothing; tries = (e z).tries })
 
   pub found_told : (s : Search) → s ≡ search junction wanted → s.found ≡ rate_for junction wanted
   found_told s e = ap (λ (x : Search). x.found) e ∙ search_found

@@ -7,15 +7,15 @@ use native.Mathlib.Nat.{le_trans}
 use native.Mathlib.Omega.{arith}
 use borrow.Author.Tests.{eq-eqb, eqb-true}
 use lib.Dec.{eqb}
+use Rattle.std.specs.Prelude.{Option, Some, None}
 use Rattle.tables.proofs.Numbers.{le_or_lt}
 use Rattle.tables.proofs.Least.{least_is}
+use Rattle.road.specs.declared.Units.{Units}
 use Rattle.road.specs.Corridor.{Flows}
 use Rattle.road.specs.Step.{Junction, sending, flows_with}
 use Rattle.road.specs.Limits.{NoLink, JunctionLimits}
 use Rattle.road.proofs.Quotients.{share_le, ceiling}
 use Rattle.road.proofs.Rules.{SmallestLimit, some_limit_sends, sending_product, sending_capacity, sending_rises, sending_exact, offer_exact, merge_free, flows_sent, flows_offered, flows_metered, flows_fit_lem}
-use Rattle.settings.specs.declared.Found.{Found}
-use Rattle.settings.specs.declared.Found.TheVariants.{Rate, Nothing}
 use Rattle.settings.specs.declared.Setting.TheVariants.{Full}
 use Rattle.settings.specs.Rate.{rate_for}
 use Rattle.settings.specs.Setting.{held_limit, settle, setting_for, rate_in, limit_in}
@@ -84,10 +84,10 @@ module _ (junction : Junction) (limits : JunctionLimits junction) (flows : Flows
   -- ---- the setting of permitted flows
 
   module _ (permitted : Permitted junction flows) where
-    settled : (found : Found) → Finds junction flows found
+    settled : (found : Option Units) → Finds junction flows found
         → IsSetting junction flows (rate_in (settle found junction.state.vehicles flows)) (limit_in junction.link.full_speed (settle found junction.state.vehicles flows))
-    settled (Rate rate) h = inl (record { posted = refl; smallest = h })
-    settled Nothing h =
+    settled (Some rate) h = inl (record { posted = refl; smallest = h })
+    settled None h =
         let held = held_sends permitted in
         inr (record { none = h; ramp = refl; sends = held.sends; least = held.least; within = held.within })
 
@@ -147,7 +147,7 @@ module _ (junction : Junction) (limits : JunctionLimits junction) (flows : Flows
     -- node 0, which has no link, is always full, at rate r
     pub entry_full : NoLink junction.link → setting_for junction flows ≡ Full (record { 0 = flows.ramp })
     unfolding setting_for
-    entry_full e = ap (λ (found : Found). settle found junction.state.vehicles flows) ((rate_iff junction flows (Rate (record { 0 = flows.ramp }))).1 smallest)
+    entry_full e = ap (λ (found : Option Units). settle found junction.state.vehicles flows) ((rate_iff junction flows (Some (record { 0 = flows.ramp }))).1 smallest)
       where
         v : ℕ
         v = junction.link.full_speed

@@ -1,12 +1,11 @@
 -- The search for a rate: some rate 0..C with limit V gives exactly f and r, or none does.
-use Rattle.std.specs.Prelude.{ℕ, Bool, cond, ◌&&◌, leb, eqb}
+use Rattle.std.specs.Prelude.{ℕ, Bool, cond, ◌&&◌, leb, eqb, Option, Some, None}
 use Rattle.tables.specs.declared.Halved.{Halved}
 use Rattle.tables.specs.Least.{least}
 use Rattle.tables.specs.Halving.{halving}
+use Rattle.road.specs.declared.Units.{Units}
 use Rattle.road.specs.Corridor.{Flows}
 use Rattle.road.specs.Step.{Junction, flows_with}
-use Rattle.settings.specs.declared.Found.{Found}
-use Rattle.settings.specs.declared.Found.TheVariants.{Rate, Nothing}
 use Rattle.settings.specs.declared.Search.{Search}
 
 -- rules 1 to 5 at full speed
@@ -31,14 +30,14 @@ candidate junction wanted = halving (reaches junction wanted) junction.ramp.capa
 unfoldable pub search : Junction → Flows → Search
 search junction wanted =
     record {
-      found = cond (gives junction wanted (candidate junction wanted).rate) (Rate (record { 0 = (candidate junction wanted).rate })) Nothing;
+      found = cond (gives junction wanted (candidate junction wanted).rate) (Some (record { 0 = (candidate junction wanted).rate })) None;
       tries = (candidate junction wanted).tries;
     }
 
 -- the smallest of 0..c that passes, if one does
-abbrev pub smallest : (ℕ → Bool) → ℕ → Found
-smallest passes c = cond (passes (least passes c)) (Rate (record { 0 = least passes c })) Nothing
+abbrev pub smallest : (ℕ → Bool) → ℕ → Option Units
+smallest passes c = cond (passes (least passes c)) (Some (record { 0 = least passes c })) None
 
 -- the smallest rate of 0..C that gives f and r at full speed
-unfoldable pub rate_for : Junction → Flows → Found
+unfoldable pub rate_for : Junction → Flows → Option Units
 rate_for junction wanted = smallest (gives junction wanted) junction.ramp.capacity

@@ -1,10 +1,9 @@
 -- A node's setting is either full, or held at a limit.
-use Rattle.std.specs.Prelude.{ℕ, ◌*◌, ◌/◌, eqb}
+use Rattle.std.specs.Prelude.{ℕ, ◌*◌, ◌/◌, eqb, Option, Some, None}
 use Rattle.tables.specs.Least.{least}
+use Rattle.road.specs.declared.Units.{Units}
 use Rattle.road.specs.Corridor.{Flows}
 use Rattle.road.specs.Step.{Junction}
-use Rattle.settings.specs.declared.Found.{Found}
-use Rattle.settings.specs.declared.Found.TheVariants.{Rate, Nothing}
 use Rattle.settings.specs.declared.Setting.{Setting}
 use Rattle.settings.specs.declared.Setting.TheVariants.{Full, Held}
 use Rattle.settings.specs.Rate.{rate_for}
@@ -14,9 +13,9 @@ unfoldable pub held_limit : ℕ → ℕ → ℕ
 held_limit vehicles flow = least (λ limit. eqb (vehicles * limit / 65536) flow) 65536
 
 -- full where a rate was found; held otherwise, with rate r
-abbrev pub settle : Found → ℕ → Flows → Setting
-settle (Rate rate) vehicles wanted = Full rate
-settle Nothing vehicles wanted = Held (record { 0 = wanted.ramp }) (record { 0 = held_limit vehicles wanted.main })
+abbrev pub settle : Option Units → ℕ → Flows → Setting
+settle (Some rate) vehicles wanted = Full rate
+settle None vehicles wanted = Held (record { 0 = wanted.ramp }) (record { 0 = held_limit vehicles wanted.main })
 
 unfoldable pub setting_for : Junction → Flows → Setting
 setting_for junction wanted = settle (rate_for junction wanted) junction.state.vehicles wanted

@@ -1,9 +1,8 @@
 -- The node's share of demand 3: which flows a record may have at a node, and which setting document 01 names for them.
-use Rattle.std.specs.Prelude.{ℕ, ◌*◌, ◌/◌, ◌≤◌, min, ◌≡◌, ◌⊎◌}
+use Rattle.std.specs.Prelude.{ℕ, ◌*◌, ◌/◌, ◌≤◌, min, ◌≡◌, ◌⊎◌, Option, Some, None}
+use Rattle.road.specs.declared.Units.{Units}
 use Rattle.road.specs.Corridor.{Flows}
 use Rattle.road.specs.Step.{Junction, sending, flows_with, outflow}
-use Rattle.settings.specs.declared.Found.{Found}
-use Rattle.settings.specs.declared.Found.TheVariants.{Rate, Nothing}
 
 -- what a proposal keeps: f ≤ min(n × V / 65,536, what the link may discharge); T(f) + r ≤ S; r ≤ min(l, C)
 pub record Permitted (junction : Junction) (flows : Flows) : Type 0 where
@@ -26,9 +25,9 @@ abbrev pub NoRate : Junction → Flows → Type 0
 NoRate junction flows = (rate : ℕ) → rate ≤ junction.ramp.capacity → Gives junction flows rate → ⊥
 
 -- what the search finds: the smallest such rate, or none where there is none
-abbrev pub Finds : Junction → Flows → Found → Type 0
-Finds junction flows (Rate rate) = SmallestRate junction flows rate.0
-Finds junction flows Nothing = NoRate junction flows
+abbrev pub Finds : Junction → Flows → Option Units → Type 0
+Finds junction flows (Some rate) = SmallestRate junction flows rate.0
+Finds junction flows None = NoRate junction flows
 
 -- "Full: if some rate 0..C with limit V gives exactly f and r, the limit is V and the rate is the smallest such."
 pub record IsFull (junction : Junction) (flows : Flows) (rate limit : ℕ) : Type 0 where

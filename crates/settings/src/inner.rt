@@ -7,11 +7,12 @@ ghost use Rattle.settings.specs.Rate.{full_flows, gives, candidate, search};
 ghost use Rattle.settings.specs.Tested.{tested, Offered};
 ghost use Rattle.settings.specs.Setting.{held_limit, setting_for};
 
-use crate::{Found, Search, Setting};
+use crate::{Search, Setting};
 use road::{Flows, Junction, Speed, Units};
 use tables::Halved;
 
 // The flows at full speed.
+#[tactic(auto, unfolding(crate::specs::Rate::full_flows))]
 fn full_flows(junction: Junction, rate: Units) -> Flows
     requires { junction.split.0 ≤ 65536 }
     ensures { flows_of result ≡ full_flows (junction_of junction) rate.0 }
@@ -19,102 +20,88 @@ fn full_flows(junction: Junction, rate: Units) -> Flows
     road::inner::flows_with(junction, rate, junction.link.full_speed)
 }
 
-// The smaller of two numbers.
-fn smaller(a: u32, b: u32) -> u32
-    ensures { result ≡ min a b }
-{
-    if a <= b { a } else { b }
+// What the tries of one node and step share: D, T(D), S, min(l, C), f and r.
+#[derive(Clone, Copy)]
+struct Shared {
+    sent: u32,
+    beside: u32,
+    supply: u32,
+    most: u32,
+    main: u32,
+    ramp: u32,
 }
 
-// Whether no more of D than f passes, where D is more than f: D × S / R ≤ f exactly where D × S < (f + 1) × R, and (f + 1) × R may have more
-// than 64 bits.
-fn main_down(sent: u32, beside: u32, supply: u32, wanted: u32, offered: u32) -> bool
-    requires { wanted < sent }
-    ensures { result ≡ leb (passed sent (beside + offered) supply) wanted }
-{
-    let all = road::inner::product(sent, supply);
-    let part = road::inner::product(wanted + 1, beside);
-    if all < part {
-        return true;
+impl Shared {
+    // Whether no more of D than f passes, where D is more than f: D × S / R ≤ f exactly where D × S < (f + 1) × R, and (f + 1) × R may have
+    // more than 64 bits.
+    #[tactic(auto, using(crate::proofs::Products::products))]
+    fn main_down(self, offered: u32) -> bool
+        requires { self.main < self.sent }
+        ensures { result ≡ leb (passed self.sent (self.beside + offered) self.supply) self.main }
+    {
+        let all = road::inner::product(self.sent, self.supply);
+        let part = road::inner::product(self.main + 1, self.beside);
+        all < part || all - part < road::inner::product(self.main + 1, offered)
     }
-    let more = road::inner::product(wanted + 1, offered);
-    if all - part < more {
-        return true;
-    }
-    false
-}
 
-// Whether no less of the offer than r passes: r ≤ d × S / R exactly where r × R ≤ d × S.
-fn ramp_up(beside: u32, supply: u32, wanted: u32, offered: u32) -> bool
-    requires { Offered beside supply wanted offered }
-    ensures { result ≡ leb wanted (passed offered (beside + offered) supply) }
-{
-    if supply < wanted {
-        return false;
+    // Whether no less of the offer than r passes: r ≤ d × S / R exactly where r × R ≤ d × S.
+    fn ramp_up(self, offered: u32) -> bool
+        requires { Offered self.beside self.supply self.ramp offered }
+        ensures { result ≡ leb self.ramp (passed offered (self.beside + offered) self.supply) }
+    {
+        self.ramp <= self.supply
+            && road::inner::product(self.ramp, self.beside)
+                <= road::inner::product(offered, self.supply - self.ramp)
     }
-    let part = road::inner::product(wanted, beside);
-    let more = road::inner::product(offered, supply - wanted);
-    if part <= more {
-        return true;
-    }
-    false
-}
 
-// One try: whether the rate is high enough.
-fn tested(sent: u32, beside: u32, supply: u32, most: u32, main: u32, ramp: u32, rate: u32) -> bool
-    ensures { result ≡ tested sent beside supply most main ramp rate }
-{
-    let offered = smaller(most, rate);
-    if sent <= main {
-        if offered < ramp {
-            return false;
+    // One try: whether the rate is high enough.
+    #[tactic(auto, using(crate::proofs::Products::products), unfolding(crate::specs::Tested::tested))]
+    fn tested(self, rate: u32) -> bool
+        ensures { result ≡ tested self.sent self.beside self.supply self.most self.main self.ramp rate }
+    {
+        let offered = self.most.min(rate);
+        if self.sent <= self.main {
+            return self.ramp <= offered && self.ramp_up(offered);
         }
-        return ramp_up(beside, supply, ramp, offered);
+        self.main_down(offered) && self.ramp_up(offered)
     }
-    if main_down(sent, beside, supply, main, offered) {
-        return ramp_up(beside, supply, ramp, offered);
-    }
-    false
-}
 
-// The rates 0 to `top`, halved, with the tries counted: `low` and `more` above it are left. How many are left does not wait for the middle, so
-// that one try begins while the one before it ends.
-fn halved(sent: u32, beside: u32, supply: u32, most: u32, main: u32, ramp: u32, top: u32) -> Halved
-    ensures { result ≡ halving (tested sent beside supply most main ramp) top }
-{
-    let mut low: u32 = 0;
-    let mut more = top;
-    let mut tries: u32 = 0;
-    while 0 < more {
-        let middle = low + more / 2;
-        tries += 1;
-        if tested(sent, beside, supply, most, main, ramp, middle) {
-            more = more / 2;
-        } else {
-            low = middle + 1;
-            more = (more - 1) / 2;
+    // The rates 0 to `top`, halved, with the tries counted: `low` and `more` above it are left. How many are left does not wait for the middle,
+    // so that one try begins while the one before it ends.
+    fn halved(self, top: u32) -> Halved
+        ensures { result ≡ halving (tested self.sent self.beside self.supply self.most self.main self.ramp) top }
+    {
+        let mut low: u32 = 0;
+        let mut more = top;
+        let mut tries: u32 = 0;
+        while 0 < more {
+            let middle = low + more / 2;
+            tries += 1;
+            if self.tested(middle) {
+                more = more / 2;
+            } else {
+                low = middle + 1;
+                more = (more - 1) / 2;
+            }
         }
-    }
-    Halved {
-        rate: low,
-        tries: tries + 1,
+        Halved {
+            rate: low,
+            tries: tries + 1,
+        }
     }
 }
 
 // Whether the rate gives just the flows wanted.
+#[tactic(auto, unfolding(crate::specs::Rate::gives))]
 pub fn gives(junction: Junction, wanted: Flows, rate: Units) -> bool
     requires { junction.split.0 ≤ 65536 }
     ensures { result ≡ gives (junction_of junction) (flows_of wanted) rate.0 }
 {
-    let x = full_flows(junction, rate);
-    if x.main.0 == wanted.main.0 {
-        x.ramp.0 == wanted.ramp.0
-    } else {
-        false
-    }
+    full_flows(junction, rate) == wanted
 }
 
 // The rates 0 to C, halved.
+#[tactic(auto, using(crate::proofs::Products::candidate_tested))]
 pub fn candidate(junction: Junction, wanted: Flows) -> Halved
     requires { junction.split.0 ≤ 65536 }
     ensures { result ≡ candidate (junction_of junction) (flows_of wanted) }
@@ -124,40 +111,33 @@ pub fn candidate(junction: Junction, wanted: Flows) -> Halved
         junction.state.vehicles,
         junction.link.full_speed,
     );
-    let beside = road::inner::through(sent, junction.split);
-    let most = smaller(junction.state.queue.0, junction.ramp.capacity.0);
-    halved(
-        sent.0,
-        beside.0,
-        junction.supply.0,
-        most,
-        wanted.main.0,
-        wanted.ramp.0,
-        junction.ramp.capacity.0,
-    )
+    let shared = Shared {
+        sent: sent.0,
+        beside: road::inner::through(sent, junction.split).0,
+        supply: junction.supply.0,
+        most: junction.state.queue.0.min(junction.ramp.capacity.0),
+        main: wanted.main.0,
+        ramp: wanted.ramp.0,
+    };
+    shared.halved(junction.ramp.capacity.0)
 }
 
 // The search for a rate of 0 to C that gives the flows wanted at full speed.
+#[tactic(auto, unfolding(crate::specs::Rate::search))]
 pub fn search(junction: Junction, wanted: Flows) -> Search
     requires { junction.split.0 ≤ 65536 }
     ensures { result ≡ search (junction_of junction) (flows_of wanted) }
 {
     let last = candidate(junction, wanted);
-    let tries = last.tries;
-    if gives(junction, wanted, Units(last.rate)) {
-        Search {
-            found: Found::Rate(Units(last.rate)),
-            tries,
-        }
-    } else {
-        Search {
-            found: Found::Nothing,
-            tries,
-        }
+    let rate = Units(last.rate);
+    Search {
+        found: gives(junction, wanted, rate).then_some(rate),
+        tries: last.tries,
     }
 }
 
 // The smallest limit at which the vehicles send the flow.
+#[tactic(auto, using(crate::proofs::Settings::held_ceiling))]
 pub fn held_limit(vehicles: Units, flow: Units) -> Speed
     requires vehicles_bound { vehicles.0 ≤ 65536 }
     requires flow_le_vehicles { flow.0 ≤ vehicles.0 }
@@ -167,20 +147,22 @@ pub fn held_limit(vehicles: Units, flow: Units) -> Speed
     if n == 0 {
         return Speed(0);
     }
-    Speed((((flow.0 as u64) * 65536 + n - 1) / n) as u32)
+    Speed(((flow.0 as u64) * 65536).div_ceil(n) as u32)
 }
 
 // The setting that gives the flows wanted.
+#[tactic(auto, using(crate::proofs::Rates::found_told), unfolding(crate::specs::Setting::setting_for))]
 pub fn setting_for(junction: Junction, wanted: Flows) -> Setting
     requires split_bound { junction.split.0 ≤ 65536 }
     requires vehicles_bound { (junction.state.vehicles.0 ≤ 65536) × (wanted.main.0 ≤ junction.state.vehicles.0) }
     ensures { result ≡ setting_for (junction_of junction) (flows_of wanted) }
 {
     let done = search(junction, wanted);
-    let found = done.found;
-    let Found::Rate(rate) = found else {
-        let ramp = wanted.ramp;
-        return Setting::Held(ramp, held_limit(junction.state.vehicles, wanted.main));
+    let Some(rate) = done.found else {
+        return Setting::Held(
+            wanted.ramp,
+            held_limit(junction.state.vehicles, wanted.main),
+        );
     };
     Setting::Full(rate)
 }

@@ -5,17 +5,10 @@ pub mod inner;
 
 use road::{Speed, Units};
 
-// What the search for a rate finds.
-#[derive(Clone, Copy)]
-pub enum Found {
-    Rate(Units),
-    Nothing,
-}
-
-// What a search for a rate comes to: what it found, and how many rates it tried.
+// What a search for a rate comes to: the rate that it found, if any, and how many rates it tried.
 #[derive(Clone, Copy)]
 pub struct Search {
-    pub found: Found,
+    pub found: Option<Units>,
     pub tries: u32,
 }
 

@@ -2,13 +2,12 @@
 use Prim.Native.Nat.{ℕ, ◌≤◌}
 use mathlib.Core.Bool.{Bool, true, false}
 use mathlib.Core.List.{List}
-use mathlib.Core.Path.{◌≡◌, refl, sym, ap, ap₂, ◌∙◌}
+use mathlib.Core.Path.{◌≡◌, refl, sym, ap, ◌∙◌}
 use native.Mathlib.Omega.{arith}
-use borrow.Author.Tests.{eq-eqb, ne_eqb}
 use lib.Dec.{eqb}
 use lib.ListN.{length}
-use Rattle.tables.specs.declared.Answer.{Answer}
-use Rattle.tables.specs.declared.Answer.TheVariants.{Accepted}
+use Rattle.tables.specs.Answer.{Answer}
+use Rattle.tables.specs.Answer.{Accepted}
 use Rattle.tables.specs.Answer.{or_else, sized}
 use Rattle.tables.proofs.Answers.{Refuses, or_else_accepts, or_else_stop, or_else_next, sized_iff}
 use Rattle.lists.specs.Words.{links_of, steps_of, road_of, plan_of, plan_length, record_length, width_of}
@@ -34,20 +33,19 @@ module _ (corridor demands plan : List ℕ) (room : ℕ) where
   sizes_fail t e h = let q : sizes corridor demands ≡ false = sym e ∙ h in rw q
 
   module _ (t : Bool) (e : t ≡ sizes corridor demands) (h : t ≡ true) (links steps : ℕ) (n : links ≡ links_of corridor) (k : steps ≡ steps_of demands) where
-    pub plan_fails : (m : ℕ) → m ≡ plan_length links steps → (length plan ≡ m → ⊥) → false ≡ simulate_sizes corridor demands plan room
+    pub plan_fails : (m : ℕ) → m ≡ plan_length links steps → eqb (length plan) m ≡ false → false ≡ simulate_sizes corridor demands plan room
     unfolding simulate_sizes
-    plan_fails m p d =
+    plan_fails m p f =
         let q : sizes corridor demands ≡ true = sym e ∙ h in
-        let is : m ≡ plan_length (links_of corridor) (steps_of demands) = p ∙ ap₂ (λ (x y : ℕ). plan_length x y) n k in
-        let f : eqb (length plan) (plan_length (links_of corridor) (steps_of demands)) ≡ false = ne_eqb (length plan) (plan_length (links_of corridor) (steps_of demands)) (λ g. d (g ∙ sym is)) in
-        rw (q, f)
+        let g : eqb (length plan) (plan_length (links_of corridor) (steps_of demands)) ≡ false = cc in
+        rw (q, g)
 
-    pub record_decides : (m : ℕ) (r : Bool) → m ≡ plan_length links steps → length plan ≡ m → r ≡ record_sized links steps room → r ≡ simulate_sizes corridor demands plan room
+    pub record_decides : (m : ℕ) (r : Bool) → m ≡ plan_length links steps → eqb (length plan) m ≡ true → r ≡ record_sized links steps room → r ≡ simulate_sizes corridor demands plan room
     unfolding simulate_sizes
-    record_decides m r p d s =
+    record_decides m r p f s =
         let q : sizes corridor demands ≡ true = sym e ∙ h in
-        let f : eqb (length plan) (plan_length (links_of corridor) (steps_of demands)) ≡ true = eq-eqb (length plan) (plan_length (links_of corridor) (steps_of demands)) (d ∙ p ∙ ap₂ (λ (x y : ℕ). plan_length x y) n k) in
-        rw (q, f) (s ∙ ap₂ (λ (x y : ℕ). record_sized x y room) n k)
+        let g : eqb (length plan) (plan_length (links_of corridor) (steps_of demands)) ≡ true = cc in
+        rw (q, g) cc
 
   pub record Lengths : Type 0 where
     pub listed : sizes corridor demands ≡ true

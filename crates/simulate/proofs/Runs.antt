@@ -5,7 +5,7 @@ use mathlib.Core.Path.{◌≡◌, refl, sym, ap, ap₂, subst, ◌∙◌}
 use native.Mathlib.Numerals.{add-one}
 use native.Mathlib.Omega.{arith}
 use borrow.Rule.Slice.PartMut.{put_mid}
-use lib.ListN.{length, get_or, set, take, drop, length-append}
+use lib.ListN.{length, get_or, set, drop, length-append}
 use lib.Seq.{drop-cons, set_at, append_snoc, drop-length}
 use Rattle.tables.specs.Grid.{cell, grid}
 use Rattle.tables.specs.Sum.{sum}
@@ -18,9 +18,9 @@ use Rattle.road.specs.Step.{exit}
 use Rattle.road.specs.Run.{state_at, no_flow, run, cost}
 use Rattle.road.proofs.Rules.{exit_of_none}
 use Rattle.road.proofs.Runs.{run_flows, run_last}
-use Rattle.lists.specs.Words.{links_of, steps_of, demands_length, downstream_word, road_of, plan_of, node_word, trace_word, trace_words, low_high, record_words, trace_length, record_length, record_width, width_of}
-use Rattle.lists.specs.Rows.{state_in}
-use Rattle.lists.specs.Fits.{CorridorFits, DemandsFit, RowFits}
+use Rattle.lists.specs.Words.{links_of, steps_of, downstream_word, road_of, plan_of, node_word, trace_word, trace_words, low_high, record_words, record_length, record_width, width_of}
+use Rattle.lists.specs.Rows.{state_in, lent}
+use Rattle.lists.specs.Fits.{RowFits}
 use Rattle.lengths.proofs.Sizes.{width_told}
 use Rattle.lists.proofs.Words.{trace_length_lem}
 use Rattle.link_table.proofs.Table.{table_fits_lem}
@@ -30,17 +30,10 @@ use Rattle.simulate_rows.proofs.Rows.{row_length, rest_state, row_same}
 use Rattle.simulate_rows.proofs.Steps.{flows_fit_lem}
 use Rattle.simulate.proofs.Steps.{StepRows, step_rows, step_kept, record_row_is, next_row_is, next_cost_is, start_row_is}
 
-pub record Inside (demands plan : List ℕ) (links at : ℕ) : Type 0 where
-  pub plan_row : at + (links + 1) * 2 ≤ length plan
-  pub demand_row : 1 + at + (links + 1) * 2 ≤ length demands
-
 -- ---- the corridor's start, as the code has it
 
 pub started : (corridor demands plan : List ℕ) (links : ℕ) (state : List ℕ) → links ≡ links_of corridor → state ≡ start_row corridor links → state ≡ state_row 2 corridor demands plan 0
 started corridor demands plan links state n e = e ∙ ap (start_row corridor) n ∙ start_row_is corridor demands plan
-
-pub corridor_fits_lem : (corridor demands plan : List ℕ) (links : ℕ) → Sound corridor demands plan → links ≡ links_of corridor → CorridorFits corridor links
-corridor_fits_lem corridor demands plan links sound n = subst (λ (x : ℕ). CorridorFits corridor x) (sym n) sound.corridor_fits
 
 -- two words stored after what was written to the front
 two_after : (g d : List ℕ) (m a b : ℕ) → length g ≡ m → length d ≡ m + 2 → set (set (g ++ drop m d) m a) (m + 1) b ≡ g ++ (a ∷ b ∷ [])
@@ -62,56 +55,31 @@ pub state_lent : (corridor demands plan : List ℕ) (k links : ℕ) (table state
 unfolding state_row
 state_lent corridor demands plan k links table state room a n = ap length a.reached ∙ row_length 2 (links_of corridor) _ _ _ ∙ ap (λ (x : ℕ). suc x * 2) (sym n)
 
--- ---- one step, as the code lends its rows; `at` is where row k of the plan starts, and 1 + at row k of the demands
+-- ---- one step, as the code lends its rows: `links` is N as it has it, `demand` and `rates` are row k of the demands and of the plan
 
-module _ (corridor demands plan : List ℕ) (k links at : ℕ) (sound : Sound corridor demands plan) (n : links ≡ links_of corridor) (h : k < steps_of demands) (e : at ≡ k * ((links + 1) * 2)) where
-  abbrev demand_row : List ℕ
-  demand_row = take (1 + at + (links + 1) * 2 - (1 + at)) (drop (1 + at) demands)
+module _ (corridor demands plan : List ℕ) (k links : ℕ) (sound : Sound corridor demands plan) (n : links ≡ links_of corridor) (h : k < steps_of demands)
+    (demand rates : List ℕ) (d : demand ≡ lent (1 + k * (suc links * 2)) (suc links * 2) demands) (r : rates ≡ lent (k * (suc links * 2)) (suc links * 2) plan) where
+  step_lent : StepRows corridor demands plan k demand rates
+  step_lent = rw (d, r) (step_rows corridor demands plan k (suc links * 2) (1 + k * (suc links * 2)) (k * (suc links * 2)) (ap (λ (x : ℕ). suc x * 2) n) refl refl)
 
-  abbrev plan_row : List ℕ
-  plan_row = take (at + (links + 1) * 2 - at) (drop at plan)
-
-  step_lent : StepRows corridor demands plan k demand_row plan_row
-  step_lent = step_rows corridor demands plan k ((links + 1) * 2) (1 + at) at (omega arith) (omega arith) e
-
-  within : at + (links + 1) * 2 ≤ steps_of demands * (suc (links_of corridor) * 2)
+  within : k * (suc links * 2) + suc links * 2 ≤ steps_of demands * (suc (links_of corridor) * 2)
   within =
-      let w : (links + 1) * 2 ≡ suc (links_of corridor) * 2 = omega arith in
+      let w : suc links * 2 ≡ suc (links_of corridor) * 2 = ap (λ (x : ℕ). suc x * 2) n in
       omega (arith, row_fits_lem k (steps_of demands) (suc (links_of corridor) * 2) h, ap (λ (x : ℕ). k * x) w)
 
-  -- both rows lie within their lists
-  pub rows_inside : Inside demands plan links at
-  rows_inside = record { plan_row = omega (arith, within, sound.plan_fits); demand_row = omega (arith, within, sound.demands_fit) }
-
-  pub demands_read : (steps : ℕ) → steps ≡ steps_of demands → DemandsFit demands links steps
-  demands_read steps q =
-      record {
-        first = q;
-        few = omega (arith, sound.corridor_fits.few);
-        short = omega (arith, sound.steps);
-        words = omega (arith, sound.demands_fit, ap₂ demands_length n q);
-      }
-
-  demand_row_fits : RowFits 2 demand_row links
-  demand_row_fits =
-      part_length (1 + at) ((links + 1) * 2) (length demands) demands (omega (arith, within, sound.demands_fit)) refl ∙ omega arith
-
-  plan_row_fits : RowFits 2 plan_row links
-  plan_row_fits = part_length at ((links + 1) * 2) (length plan) plan (omega (arith, within, sound.plan_fits)) refl ∙ omega arith
-
   module _ (table state room : List ℕ) (at_k : RunAt corridor demands plan k table state room) where
-    step_asks : (j : ℕ) → j ≤ links → StepKept table demand_row plan_row state j
+    step_asks : (j : ℕ) → j ≤ links → StepKept table demand rates state j
     step_asks j l =
-        subst (λ (x : List ℕ). StepKept table demand_row plan_row x j) (sym at_k.reached)
-        (step_kept corridor demands plan k table demand_row plan_row at_k.tabled step_lent sound.limits sound.bounded h j (omega arith))
+        subst (λ (x : List ℕ). StepKept table demand rates x j) (sym at_k.reached)
+        (step_kept corridor demands plan k table demand rates at_k.tabled step_lent sound.limits sound.bounded h j (omega arith))
 
-    pub rows_fit : RowsFit table demand_row plan_row state links × RowFits 2 room links
+    pub rows_fit : RowsFit table demand rates state links × RowFits 2 room links
     rows_fit = (
       record {
         few = omega (arith, sound.corridor_fits.few);
         table_fits = table_fits_lem corridor (links_of corridor) table at_k.tabled ∙ ap (λ (x : ℕ). suc x * 8) (sym n);
-        demand_fits = demand_row_fits;
-        plan_fits = plan_row_fits;
+        demand_fits = ap length d ∙ part_length (1 + k * (suc links * 2)) (suc links * 2) (length demands) demands (omega (arith, within, sound.demands_fit)) refl;
+        plan_fits = ap length r ∙ part_length (k * (suc links * 2)) (suc links * 2) (length plan) plan (omega (arith, within, sound.plan_fits)) refl;
         state_fits = state_lent corridor demands plan k links table state room at_k n;
         kept = step_asks;
       },
@@ -120,18 +88,18 @@ module _ (corridor demands plan : List ℕ) (k links at : ℕ) (sound : Sound co
 
     -- flows, row, after and total are what the step gave
     pub step_ran : (width steps downstream : ℕ) → steps ≡ steps_of demands → downstream ≡ downstream_word demands links steps k → (passed row after : List ℕ) (total : ℕ)
-        → Stepped width table links demand_row downstream plan_row state passed row after total → Ran width corridor demands plan k passed row after total
+        → Stepped width table links demand downstream rates state passed row after total → Ran width corridor demands plan k passed row after total
     unfolding road_of
-    step_ran width steps downstream q d passed row after total given =
-        let g = subst (λ (x : List ℕ). Stepped width table (links_of corridor) demand_row downstream plan_row x passed row after total) at_k.reached
-        (subst (λ (x : ℕ). Stepped width table x demand_row downstream plan_row state passed row after total) n given) in
-        let beyond : downstream ≡ (road_of corridor demands).downstream k = d ∙ ap₂ (λ (x y : ℕ). downstream_word demands x y k) n q in
+    step_ran width steps downstream q x passed row after total given =
+        let g = subst (λ (y : List ℕ). Stepped width table (links_of corridor) demand downstream rates y passed row after total) at_k.reached
+        (subst (λ (y : ℕ). Stepped width table y demand downstream rates state passed row after total) n given) in
+        let beyond : downstream ≡ (road_of corridor demands).downstream k = x ∙ ap₂ (λ (y z : ℕ). downstream_word demands y z k) n q in
         record {
-          written = g.gives.written ∙ record_row_is corridor demands plan k table demand_row plan_row at_k.tabled step_lent downstream beyond passed g.passed width;
-          moved = g.gives.moves ∙ next_row_is corridor demands plan k table demand_row plan_row at_k.tabled step_lent downstream beyond passed g.passed;
-          adds = g.gives.adds ∙ next_cost_is corridor demands plan k table demand_row plan_row at_k.tabled step_lent downstream beyond passed g.passed;
+          written = g.gives.written ∙ record_row_is corridor demands plan k table demand rates at_k.tabled step_lent downstream beyond passed g.passed width;
+          moved = g.gives.moves ∙ next_row_is corridor demands plan k table demand rates at_k.tabled step_lent downstream beyond passed g.passed;
+          adds = g.gives.adds ∙ next_cost_is corridor demands plan k table demand rates at_k.tabled step_lent downstream beyond passed g.passed;
           low = g.gives.low;
-          room = flows_fit_lem table (links_of corridor) demand_row downstream plan_row _ passed g.passed;
+          room = flows_fit_lem table (links_of corridor) demand downstream rates _ passed g.passed;
         }
 
 -- the row lent for a step, as the code has N
@@ -139,17 +107,6 @@ pub row_lent : (width : ℕ) (corridor row : List ℕ) (links : ℕ) → links �
 row_lent width corridor row links n e = e ∙ ap (λ (x : ℕ). suc x * width) (sym n)
 
 -- ---- the lengths of the record's rows, as the code has them: w is how many words one has
-
-pub states_room : (width : ℕ) (corridor demands : List ℕ) (links steps w : ℕ) (d : List ℕ) → links ≡ links_of corridor → steps ≡ steps_of demands → w ≡ suc links * width
-    → length d ≡ trace_length width (links_of corridor) (steps_of demands) → length d ≡ (steps + 1) * w
-states_room width corridor demands links steps w d n k q e =
-    let m : suc (steps_of demands) ≡ steps + 1 = omega arith in
-    let v : suc (links_of corridor) * width ≡ w = ap (λ (x : ℕ). suc x * width) (sym n) ∙ sym q in
-    e ∙ ap (λ (x : ℕ). suc (steps_of demands) * x) v ∙ ap (λ (x : ℕ). x * w) m
-
-pub part_fits : (width : ℕ) (corridor : List ℕ) (links w at m : ℕ) (l : List ℕ) → links ≡ links_of corridor → w ≡ suc links * width → at + w ≤ m → length l ≡ m
-    → RowFits width (take (at + w - at) (drop at l)) (links_of corridor)
-part_fits width corridor links w at m l n q h e = part_length at w m l h e ∙ q ∙ ap (λ (x : ℕ). suc x * width) n
 
 pub row_wide : (width : ℕ) (corridor : List ℕ) (links w : ℕ) → links ≡ links_of corridor → w ≡ suc links * width → w ≡ suc (links_of corridor) * width
 row_wide width corridor links w n q = q ∙ ap (λ (x : ℕ). suc x * width) n
@@ -181,7 +138,7 @@ module _ (corridor demands plan table : List ℕ) where
     ran_all : k ≡ steps_of demands
     ran_all = omega (arith, ran.bound)
 
-    pub ran_state_lem : state ≡ state_row 2 corridor demands plan (steps_of demands)
+    ran_state_lem : state ≡ state_row 2 corridor demands plan (steps_of demands)
     ran_state_lem = ran.keeps.reached ∙ ap (state_row 2 corridor demands plan) ran_all
 
     pub ran_cost_lem : total ≡ run_cost corridor demands plan
@@ -196,13 +153,6 @@ module _ (corridor demands plan table : List ℕ) where
         ∙ ap (λ (x : ℕ). rest_row width x (state_in 2 state)) n
         ∙ row_same width (links_of corridor) _ _ _ _ _ _
         (λ i b. ap (λ (x : List ℕ). state_in 2 x i) ran_state_lem ∙ rest_state (links_of corridor) _ i b) (λ i b. refl) (λ i b. refl)
-
--- a state and the room for flows keep their lengths
-pub state_even : (corridor demands plan : List ℕ) (k j : ℕ) (table state room table' state' room' : List ℕ) → RunAt corridor demands plan k table state room → RunAt corridor demands plan j table' state' room'
-    → (length state ≡ length state') × (length room ≡ length room')
-unfolding state_row
-state_even corridor demands plan k j table state room table' state' room' a b =
-    (ap length a.reached ∙ row_length 2 (links_of corridor) _ _ _ ∙ sym (ap length b.reached ∙ row_length 2 (links_of corridor) _ _ _), a.room ∙ sym b.room)
 
 module _ (width : ℕ) (corridor demands plan : List ℕ) where
   -- ---- the record's rows, row by row

@@ -1,6 +1,6 @@
 -- B of document 01 as word lists, with the plan and the record of case 1.
 use Rattle.std.specs.Prelude.{ℕ, List, [], ◌∷◌, ◌≡◌, length}
-use Rattle.tables.specs.declared.Answer.TheVariants.{Accepted}
+use Rattle.tables.specs.Answer.{Accepted}
 use Rattle.simulate.specs.Simulate.{simulate_answer, simulated}
 
 -- N; by node: identifier, F, V, W, J, C, L, start n, start l

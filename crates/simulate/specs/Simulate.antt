@@ -1,6 +1,6 @@
 -- The simulator: its answer, and the record that it writes.
 use Rattle.std.specs.Prelude.{ℕ, suc, ◌≤◌, ◌≡◌, Bool, ◌&&◌, List, length, eqb}
-use Rattle.tables.specs.declared.Answer.{Answer}
+use Rattle.tables.specs.Answer.{Answer}
 use Rattle.tables.specs.Answer.{or_else, sized, left}
 use Rattle.road.specs.Limits.{Limits, Bounded}
 use Rattle.road.specs.Corridor.{NodeState, Flows}

@@ -1,15 +1,14 @@
 -- Laws of rows: the loops that write one node by node, and what a row says when it is read again.
 use Prim.Native.Nat.{ℕ, suc, ◌+◌, ◌*◌, ◌≤◌, ◌<◌}
-use mathlib.Core.Bool.{Bool, true, false, cond}
 use mathlib.Core.List.{List}
 use mathlib.Core.Path.{◌≡◌, refl, sym, ap, subst, ◌∙◌}
 use mathlib.Core.Logic.{⊎_elim}
 use native.Mathlib.Numerals.{add-one}
 use native.Mathlib.Omega.{arith}
-use lib.Dec.{lit<, ltb}
-use lib.ListN.{length, get_or, set, length-set}
+use lib.Dec.{lit<}
+use lib.ListN.{get_or, set}
 use Rattle.tables.specs.Grid.{row_words}
-use Rattle.tables.proofs.Numbers.{le_or_lt, row_fits_lem}
+use Rattle.tables.proofs.Numbers.{le_or_lt}
 use Rattle.tables.proofs.Grid.{row_words_length, row_words_at, row_words_same, Placed, placed_begun, placed_two, placed_four, placed_five, placed_ended}
 use Rattle.tables.proofs.Sum.{Summed, summed_ended}
 use Rattle.road.specs.Corridor.{NodeState, Flows}
@@ -17,22 +16,10 @@ use Rattle.road.specs.Run.{no_flow, state_cost}
 use Rattle.road.proofs.Rules.{state_eq}
 use Rattle.lists.specs.Words.{Width, node_word}
 use Rattle.lists.specs.Rows.{state_in}
-use Rattle.lists.specs.Fits.{RowFits, NodeIn}
+use Rattle.lists.specs.Fits.{RowFits}
 use Rattle.simulate_rows.specs.Rows.{row_of, rest_row, put_exit, put_node, row_cost}
 
 -- ---- a row that is written node by node
-
-pub put_exit_length : (width : ℕ) (row : List ℕ) (i off : ℕ) → length (put_exit width row i off) ≡ length row
-unfolding put_exit
-put_exit_length width row i off = by_width (ltb 4 width)
-  where
-    by_width : (t : Bool) → length (cond t (set row (i * width + 4) off) row) ≡ length row
-    by_width true = length-set row (i * width + 4) off
-    by_width false = refl
-
-pub put_node_length : (width : ℕ) (row : List ℕ) (i : ℕ) (s : NodeState) (f : Flows) (off : ℕ) → length (put_node width row i s f off) ≡ length row
-unfolding put_node
-put_node_length width row i s f off = put_exit_length width _ i off ∙ simp length-set
 
 -- as a loop's invariant: the first i nodes of the row have these states, flows and off-ramp flows
 abbrev pub Written : ℕ → ℕ → ℕ → (ℕ → NodeState) → (ℕ → Flows) → (ℕ → ℕ) → List ℕ → List ℕ → Type 0
@@ -77,10 +64,6 @@ unfolding row_of
 written_ended width i links state flows off d l w h =
     placed_ended width i (links + 1) (λ j. node_word (state j) (flows j) (off j)) d l w h
     ∙ ap (λ (n : ℕ). row_words width n (λ j. node_word (state j) (flows j) (off j))) (add-one links)
-
--- the row that is being written has the node's words
-pub written_room : (width i links : ℕ) (state : ℕ → NodeState) (flows : ℕ → Flows) (off : ℕ → ℕ) (d l : List ℕ) → Written width i links state flows off d l → i < links + 1 → NodeIn width l i
-written_room width i links state flows off d l w h = omega (arith, row_fits_lem i (links + 1) width h, w.room)
 
 -- a state that is written, two words a node: s is that of node i as calls gave it
 pub state_more : (i links : ℕ) (state : ℕ → NodeState) (d l l' : List ℕ) (s : NodeState) → Written 2 i links state (λ j. no_flow) (λ j. 0) d l → i < links + 1 → s ≡ state i

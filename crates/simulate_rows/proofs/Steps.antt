@@ -8,7 +8,7 @@ use native.Mathlib.Omega.{arith}
 use lib.Dec.{lit<}
 use lib.ListN.{get_or, set}
 use Rattle.tables.specs.Grid.{row_words}
-use Rattle.tables.proofs.Grid.{row_words_length, row_words_at, Placed, placed_begun, placed_two, placed_ended}
+use Rattle.tables.proofs.Grid.{row_words_length, row_words_at, Placed, placed_two, placed_ended}
 use Rattle.tables.proofs.Sum.{Summed, summed_begun, summed_more, summed_ended}
 use Rattle.road.specs.declared.Flows as flows
 use Rattle.road.specs.declared.NodeState as states
@@ -20,27 +20,11 @@ use Rattle.road.proofs.Rules.{flows_eq, sending_le, through_le, flows_sent, flow
 use Rattle.lists.specs.Words.{Width}
 use Rattle.lists.specs.Rows.{state_in, step_road}
 use Rattle.lists.specs.Fits.{RowFits, NodeIn}
-use Rattle.lists.proofs.Rows.{node_in_lem, node_among}
+use Rattle.lists.proofs.Rows.{node_among}
 use Rattle.link_table.specs.Table.{link_in, table_road}
 use Rattle.link_table.proofs.Table.{supply_next, supply_ends}
 use Rattle.simulate_rows.specs.Rows.{put_node, flows_from, row_flows, flow_word, flow_row, passed_in, left_in, record_row, next_in, next_row, RowsFit, MoveKept, MovesFit, NodeMoved, RowMoved}
-use Rattle.simulate_rows.proofs.Rows.{Written, written_begun, written_more, written_ended, state_more, state_waits, row_length}
-
--- ---- rules 1 to 5, as the code asks them
-
-module _ (table demand plan state : List ℕ) (links : ℕ) (rows : RowsFit table demand plan state links) where
-  -- what the flows of node i ask
-  pub here_asks : (i : ℕ) → i ≤ links → (NodeIn 8 table i × NodeIn 2 demand i × NodeIn 2 plan i × NodeIn 2 state i) × (get_or demand (i * 2 + 1) 0 ≤ 65536)
-  here_asks i h =
-      ((node_in_lem 8 links i table rows.table_fits h, node_in_lem 2 links i demand rows.demand_fits h, node_in_lem 2 links i plan rows.plan_fits h, node_in_lem 2 links i state rows.state_fits h), (rows.kept i h).split)
-
-  -- and the receiving of the next link
-  pub next_asks : (i : ℕ) → i < links
-      → (NodeIn 8 table (i + 1) × NodeIn 2 state (i + 1) × (1 ≤ 2)) × ((state_in 2 state (i + 1)).vehicles ≤ (link_in table (i + 1)).jam)
-  next_asks i h = (
-    (node_in_lem 8 links (i + 1) table rows.table_fits (omega arith), node_in_lem 2 links (i + 1) state rows.state_fits (omega arith), omega arith),
-    (rows.kept (i + 1) (omega arith)).jam,
-  )
+use Rattle.simulate_rows.proofs.Rows.{Written, written_begun, written_more, written_ended, state_more, state_waits}
 
 -- ---- as a loop's invariant: the flows of the first i nodes are written
 
@@ -54,9 +38,6 @@ module _ (table : List ℕ) (links : ℕ) (demand : List ℕ) (downstream : ℕ)
   pub record Flowing (i : ℕ) (d l : List ℕ) : Type 0 where
     pub bound : i ≤ links
     pub placed : Placed 2 i (links + 1) (λ j. flow_word (row_flows table links demand downstream plan state j)) d l
-
-  pub flowing_begun : (d : List ℕ) → RowFits 2 d links → Flowing 0 d d
-  flowing_begun d e = record { bound = omega arith; placed = placed_begun 2 (links + 1) word d (omega arith) }
 
   told : (i s : ℕ) → s ≡ supply (table_road table links demand downstream) 0 (state_in 2 state) i → flows_from table demand plan state s i ≡ passes i
   unfolding row_flows junction table_road
@@ -83,9 +64,6 @@ module _ (table : List ℕ) (links : ℕ) (demand : List ℕ) (downstream : ℕ)
       let at : Placed 2 links (links + 1) word d l = subst (λ (j : ℕ). Placed 2 j (links + 1) word d l) n w.placed in
       placed_ended 2 (links + 1) (links + 1) word d l' (stored links d l l' f at (omega arith) (e ∙ told links downstream (supply_ends 2 table state demand downstream links links refl)) q) (omega arith)
       ∙ ap (λ (m : ℕ). row_words 2 m word) (add-one links)
-
-  pub flowing_room : (i : ℕ) (d l : List ℕ) → Flowing i d l → (j : ℕ) → j ≤ links → NodeIn 2 l j
-  flowing_room i d l w j h = omega (arith, w.placed.room)
 
 -- ---- what the flows of a step leave to rule 6
 
@@ -147,15 +125,8 @@ module _ (demand state passed : List ℕ) (i : ℕ) (kept : MoveKept demand stat
   ramp : f.ramp.0 ≡ (passed_in passed i).ramp
   ramp = ap (λ (x : Flows). x.ramp) hf
 
-  pub move_asks : (gained : ℕ) → gained ≤ 228655104
-      → ((f.main.0 ≤ s.vehicles.0) × (f.ramp.0 ≤ s.queue.0)) × ((s.vehicles.0 + gained ≤ 4294967295) × (s.queue.0 + q ≤ 4294967295))
-  move_asks gained g = ((omega (arith, kept, n, main), omega (arith, kept, l, ramp)), (omega (arith, kept, n), omega (arith, kept, l)))
-
   pub left_told : (x : ℕ) → x ≡ exit f.main.0 b → x ≡ left_in demand passed i
   left_told x e = e ∙ ap₂ exit main hb
-
-  pub outward_asks : (b ≤ 65536) × (f.main.0 + f.ramp.0 ≤ 4294967295)
-  outward_asks = (omega (arith, kept), omega (arith, kept, main, ramp))
 
   pub outward_told : (x : ℕ) → x ≡ outflow (flows_of f) b → (x ≡ outflow (passed_in passed i) (get_or demand (i * 2 + 1) 0)) × (x ≤ 228655104)
   unfolding outflow
@@ -237,13 +208,3 @@ module _ (width links : ℕ) (demand passed d d' : List ℕ) where
           adds = summed_ended i (links + 1) 8589934590 _ total m.summed h ∙ ap (λ (x : ℕ). state_cost x (next_in demand d passed)) (add-one links);
           low = omega (arith, m.summed.low, m.summed.bound);
         }
-
--- ---- how long the rows are that a step gives
-
-pub record_row_fits : (width links : ℕ) (demand state passed : List ℕ) → RowFits width (record_row width links demand state passed) links
-unfolding record_row
-record_row_fits width links demand state passed = row_length width links _ _ _
-
-pub next_row_fits : (links : ℕ) (demand state passed : List ℕ) → RowFits 2 (next_row links demand state passed) links
-unfolding next_row
-next_row_fits links demand state passed = row_length 2 links _ _ _

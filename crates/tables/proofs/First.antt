@@ -6,8 +6,8 @@ use native.Mathlib.Nat.{not-suc-le-zero, le_of_suc-le-suc, eq-or-lt_of_le, add-z
 use native.Mathlib.Numerals.{add-one}
 use native.Mathlib.Omega.{arith}
 use lib.Arith.{digits_div, digits_mod}
-use Rattle.tables.specs.declared.Answer.{Answer}
-use Rattle.tables.specs.declared.Answer.TheVariants.{Accepted, Refused}
+use Rattle.tables.specs.Answer.{Answer}
+use Rattle.tables.specs.Answer.{Accepted, Refused}
 use Rattle.tables.specs.Answer.{or_else, refusal, Small}
 use Rattle.tables.specs.First.{first, first_node, first_place}
 use Rattle.tables.proofs.Answers.{Refuses, refuses_is, or_else_accepts, or_else_refuses, or_else_right, or_else_assoc, refusal_accepts, refusal_refuses, small_refusal, small_or_else}
@@ -23,6 +23,13 @@ first_accepts (suc n) answer =
       λ e i l. ⊎_elim (λ q. ap answer q ∙ (b.0 e).1) (λ k. r.0 (b.0 e).0 i k) (eq-or-lt_of_le (le_of_suc-le-suc l)),
       λ h. b.1 (r.1 (λ i l. h i (omega arith)), h n (omega arith)),
     )
+
+-- where none of n refuses, and answer n, which is a, does not either
+pub first_more : (n : ℕ) (answer : ℕ → Answer) (a : Answer) → first n answer ≡ Accepted → a ≡ answer n → a ≡ Accepted → first (n + 1) answer ≡ Accepted
+unfolding first
+first_more n answer a e q h =
+    let s : first (suc n) answer ≡ Accepted = cc in
+    rw add-one s
 
 -- index i is the first of n whose answer refuses, and a is that answer
 pub record FirstRefusal (n : ℕ) (answer : ℕ → Answer) (i : ℕ) (a : Answer) : Type 0 where
@@ -41,13 +48,18 @@ first_stays m (suc n) answer h r =
     or_else_refuses (first n answer) (answer n) (subst Refuses (sym e) r) ∙ e)
     (eq-or-lt_of_le h)
 
-first_here : (n : ℕ) (answer : ℕ → Answer) (a : Answer) (i : ℕ) → Refuses a → FirstRefusal n answer i a → first n answer ≡ a
+pub first_here : (n : ℕ) (answer : ℕ → Answer) (a : Answer) (i : ℕ) → Refuses a → FirstRefusal n answer i a → first n answer ≡ a
 unfolding first
 first_here n answer a i r f =
     let e : first i answer ≡ Accepted = (first_accepts i answer).1 f.before in
     let q : answer i ≡ a = f.is in
     let u : first (suc i) answer ≡ a = cc in
     first_stays (suc i) n answer f.within (subst Refuses (sym u) r) ∙ u
+
+-- where none of the first i refuses, and answer i, which is a, does
+pub first_stops : (n i : ℕ) (answer : ℕ → Answer) (a : Answer) → i < n → first i answer ≡ Accepted → a ≡ answer i → Refuses a → a ≡ first n answer
+first_stops n i answer a l e q r =
+    sym (first_here n answer a i r (record { within = l; is = sym q; before = (first_accepts i answer).0 e }))
 
 first_found : (n : ℕ) (answer : ℕ → Answer) (a : Answer) → Refuses a → first n answer ≡ a → (i : ℕ) × FirstRefusal n answer i a
 unfolding first

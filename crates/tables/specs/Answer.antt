@@ -1,8 +1,50 @@
 -- What an answer says: the parts of a refusal, the number that the C host gets, two answers one after the other, a refusal by its fault's
 -- number, and what a refused call leaves of a lent list.
-use Rattle.std.specs.Prelude.{Bool, true, false, List, ◌↔◌, ◌≡◌, ℕ, zero, suc, ◌+◌, ◌*◌, ◌/◌, ◌%◌, ◌≤◌}
-use Rattle.tables.specs.declared.Answer.{Answer}
-use Rattle.tables.specs.declared.Answer.TheVariants.{Accepted, Refused}
+use Rattle.std.specs.Prelude.{Bool, true, false, List, ◌↔◌, ◌≡◌, ℕ, zero, suc, ◌+◌, ◌*◌, ◌/◌, ◌%◌, ◌≤◌, Result, Ok, Err}
+use Rattle.tables.specs.declared.Refusal.{Refusal}
+use Rattle.tables.specs.declared.Fault.{Fault}
+use Rattle.tables.specs.declared.Fault.TheVariants.{Size, Link, Ramp, Start, Demand, Plan, Fixed, Sending, Receiving, Offer, Moved, Queue, Cost}
+use Rattle.tables.specs.declared.Fault.TheVariants.{Bytes, Check, Kind, Number, Padding}
+
+-- accepted, or refused with the refusal's number, its row and its node
+pub data Answer : Type 0 where
+  Accepted : Answer
+  Refused : ℕ → ℕ → ℕ → Answer
+
+-- ---- what the code answers
+
+-- the refusals of document 01 by number
+abbrev pub fault_number : Fault → ℕ
+fault_number Size = 1
+fault_number Link = 2
+fault_number Ramp = 3
+fault_number Start = 4
+fault_number Demand = 5
+fault_number Plan = 6
+fault_number Fixed = 7
+fault_number Sending = 8
+fault_number Receiving = 9
+fault_number Offer = 10
+fault_number Moved = 11
+fault_number Queue = 12
+fault_number Cost = 13
+fault_number Bytes = 14
+fault_number Check = 15
+fault_number Kind = 16
+fault_number Number = 17
+fault_number Padding = 18
+
+-- the number of the fault that a test finds, 0 where it finds none
+abbrev pub fault_of : {T : Type 0} → Result T Fault → ℕ
+fault_of (Ok found) = 0
+fault_of (Err fault) = fault_number fault
+
+-- the answer that a result holds, whatever it gives where it accepts
+abbrev pub answer_of : {T : Type 0} → Result T Refusal → Answer
+answer_of (Ok found) = Accepted
+answer_of (Err refusal) = Refused (fault_number refusal.fault) refusal.row refusal.node
+
+-- ---- the parts of an answer
 
 abbrev pub number_of : Answer → ℕ
 number_of Accepted = 0

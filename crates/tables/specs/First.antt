@@ -1,7 +1,7 @@
 -- The first refusal: by one index, by the nodes of a row, by row and then node.
 use Rattle.std.specs.Prelude.{ℕ, zero, suc}
-use Rattle.tables.specs.declared.Answer.{Answer}
-use Rattle.tables.specs.declared.Answer.TheVariants.{Accepted}
+use Rattle.tables.specs.Answer.{Answer}
+use Rattle.tables.specs.Answer.{Accepted}
 use Rattle.tables.specs.Answer.{or_else, refusal}
 
 -- the first of answer 0, .. answer (n - 1) that refuses, and Accepted where none does

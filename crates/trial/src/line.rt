@@ -2,14 +2,6 @@
 // which makes word 17 of the list c 0. A proof pays for each statement and not for what the program reads, so a case costs none.
 use crate::content;
 
-// What is looked for in a text: a byte, one with another after it, or any but one.
-#[derive(Clone, Copy)]
-pub enum Sought {
-    Byte(u8),
-    Pair(u8, u8),
-    Other(u8),
-}
-
 // A word of a list, and what it becomes.
 #[derive(Clone, Copy)]
 pub struct NewWord {
@@ -17,101 +9,74 @@ pub struct NewWord {
     pub to: u32,
 }
 
-pub fn is_at(text: &[u8], at: usize, sought: Sought) -> bool {
-    let found = content::byte(text, at);
-    match sought {
-        Sought::Byte(byte) => found == byte,
-        Sought::Pair(byte, after) => found == byte && content::byte_after(text, at) == after,
-        Sought::Other(byte) => found != byte,
-    }
+// Where a byte first stands, or the length where it does not.
+pub fn find(text: &[u8], byte: u8) -> usize {
+    text.iter()
+        .position(|found| *found == byte)
+        .unwrap_or(text.len())
 }
 
-// Where what is looked for first stands, or the length where it does not.
-pub fn find(text: &[u8], sought: Sought) -> usize {
-    for i in 0..text.len() {
-        if is_at(text, i, sought) {
-            return i;
-        }
-    }
-    text.len()
+// Where a byte with another after it first stands, or the length where it does not.
+pub fn find_pair(text: &[u8], pair: &[u8; 2]) -> usize {
+    text.windows(2)
+        .position(|found| found == pair.as_slice())
+        .unwrap_or(text.len())
 }
 
 // The first line, without its line feed.
 pub fn first(text: &[u8]) -> &[u8] {
-    content::bytes(text, find(text, Sought::Byte(b'\n')))
+    content::part(text, find(text, b'\n'))
+}
+
+// The text after a place.
+pub fn after(text: &[u8], at: usize) -> &[u8] {
+    content::part_from(content::part_from(text, at), 1)
 }
 
 // The first line, but for the very first, that begins with a letter.
 fn named(text: &[u8], letter: u8) -> &[u8] {
-    first(content::bytes_after(text, find(text, Sought::Pair(b'\n', letter))))
-}
-
-fn is_digit(byte: u8) -> bool {
-    match byte {
-        b'0'..=b'9' => true,
-        _ => false,
-    }
-}
-
-fn with_digit(number: u32, digit: u8) -> u32 {
-    match digit {
-        b'0'..=b'9' => ((10 * (number as u64) + (digit as u64) - 48) % 4294967296) as u32,
-        _ => number,
-    }
+    first(after(text, find_pair(text, &[b'\n', letter])))
 }
 
 // The number that a text begins with, 0 where there is none.
 fn number(text: &[u8]) -> u32 {
-    let mut found = 0;
-    for i in 0..text.len() {
-        if !is_digit(text[i]) {
-            return found;
-        }
-        found = with_digit(found, text[i]);
+    text.iter()
+        .map_while(|byte| char::from(*byte).to_digit(10))
+        .fold(
+            0u32,
+            |number, digit| number.wrapping_mul(10).wrapping_add(digit),
+        )
+}
+
+// What a text begins to tell for the list with a letter, or by a number after a space for its next word.
+pub fn told_change(told: &[u8], letter: u8, next: usize) -> Option<NewWord> {
+    let (first, rest) = told.split_first()?;
+    if *first != letter || !rest.first()?.is_ascii_digit() {
+        return None;
     }
-    found
-}
-
-// The number one byte further on.
-fn number_after(text: &[u8], at: usize) -> u32 {
-    number(content::bytes_after(text, at))
-}
-
-// Whether a letter stands at a place with a digit after it.
-fn tells(told: &[u8], letter: u8, at: usize) -> bool {
-    content::byte(told, at) == letter && is_digit(content::byte_after(told, at))
-}
-
-// What is told at a place for the list with a letter, or by a number after a space for its next word.
-// Where nothing is told, a word that no list has.
-pub fn change_at(told: &[u8], letter: u8, at: usize, next: usize) -> NewWord {
-    if !tells(told, letter, at) {
-        return NewWord {
-            at: 4294967295,
-            to: 0,
-        };
-    }
-    let number = number_after(told, at);
+    let number = number(rest);
     if letter == b' ' {
-        return NewWord {
+        return Some(NewWord {
             at: next,
             to: number,
-        };
+        });
     }
-    let rest = content::bytes_from(told, at);
-    NewWord {
+    Some(NewWord {
         at: number as usize,
-        to: number_after(rest, find(rest, Sought::Byte(b'='))),
-    }
+        to: self::number(after(rest, find(rest, b'='))),
+    })
 }
 
 // Makes the changes of the list with a letter. By a space the numbers told become its words; answers how many they are.
 pub fn change(list: &mut [u32], letter: u8, told: &[u8]) -> usize {
     let mut next = 0;
-    for i in 0..told.len() {
-        let new = change_at(told, letter, i, next);
-        content::set(list, new.at, new.to);
-        next = content::one_more(new.at == next, next, told.len());
+    for at in 0..told.len() {
+        if let Some(new) = told_change(&told[at..], letter, next) {
+            if let Some(word) = list.get_mut(new.at) {
+                *word = new.to;
+            }
+            next += 1;
+        }
     }
     next
 }
@@ -119,9 +84,9 @@ pub fn change(list: &mut [u32], letter: u8, told: &[u8]) -> usize {
 // A list becomes the numbers told, with those after a star again and again, or zeros after them. Answers how many come once.
 pub fn put(list: &mut [u32], told: &[u8]) -> usize {
     let mut row = [0u32; 11];
-    let star = find(told, Sought::Byte(b'*'));
-    let once = change(list, b' ', content::bytes(told, star));
-    let width = change(&mut row, b' ', content::bytes_from(told, star));
+    let star = find(told, b'*');
+    let once = change(list, b' ', content::part(told, star));
+    let width = change(&mut row, b' ', content::part_from(told, star));
     content::repeat(list, once, content::part(&row, width));
     once
 }

@@ -1,12 +1,12 @@
 // What the program prints: text, numbers, answers, and the words of a list.
-use tables::Answer;
+use tables::{Answer, number_of};
 
 pub fn text(bytes: &[u8]) {
     io::write_all(1, bytes);
 }
 
 pub fn number(n: u32) {
-    io::print_decimal(1, n as u64);
+    io::print_decimal(1, u64::from(n));
 }
 
 pub fn comma() {
@@ -24,39 +24,24 @@ pub fn line_end() {
 // A refusal as its number, row and node.
 pub fn answer(given: Answer) {
     match given {
-        Answer::Accepted => {
-            text(b"accepted");
-        }
-        Answer::Refused {
-            number: refusal,
-            row,
-            node,
-        } => {
-            number(refusal);
+        Ok(()) => text(b"accepted"),
+        Err(refusal) => {
+            number(number_of(refusal.fault));
             space();
-            number(row);
+            number(refusal.row);
             space();
-            number(node);
+            number(refusal.node);
         }
     }
 }
 
-// Before the first word of each row but the first.
-fn row_end(at: usize, width: usize) {
-    if 0 < at {
-        if 0 < width {
-            if at % width == 0 {
-                comma();
-            }
-        }
-    }
-}
-
-// The words of a list, with a comma after each row of `width` words.
+// The words of a list, with a comma after each row of `width` words but the last.
 pub fn words(list: &[u32], width: usize) {
-    for i in 0..list.len() {
-        row_end(i, width);
+    for (i, word) in list.iter().enumerate() {
+        if i > 0 && i.checked_rem(width) == Some(0) {
+            comma();
+        }
         space();
-        number(list[i]);
+        number(*word);
     }
 }

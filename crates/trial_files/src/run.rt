@@ -1,12 +1,12 @@
 // Runs a case on block files. Its words are those of the line of its section that a letter names. After a star it tells
 // kind, N, K, words and bytes for the writer, then the same five for the reader, or none where they are alike.
-use crate::{bytes, transfer};
-use trial::line::Sought;
+use crate::bytes;
+use crate::transfer::{self, LENT_BYTE, Shape};
 use trial::{content, line, say};
 
 // The letter after the first space.
 fn name(told: &[u8]) -> u8 {
-    content::byte_after(told, line::find(told, Sought::Byte(b' ')))
+    content::item(line::after(told, line::find(told, b' ')), 0)
 }
 
 // The greatest lengths that a frame holds: words, file and the words read back each in a function of its own.
@@ -21,41 +21,41 @@ pub fn case(section: &[u8], told: &[u8]) {
 }
 
 fn with_file(told: &[u8], numbers: &[u32], words: &[u32]) {
-    let mut room = [bytes::LENT_BYTE; 65024];
+    let mut room = [LENT_BYTE; 65024];
     call(
         told,
-        content::between(numbers, 0, 5),
-        content::between(numbers, 5, 10),
+        Shape::of(content::part(numbers, 5)),
+        Shape::of(content::part_from(numbers, 5)),
         words,
         &mut room,
     );
 }
 
 // Write and read say one answer, both says both, then reads once more, and header says a block by its number, the sixth told.
-fn call(told: &[u8], writer: &[u32], reader: &[u32], words: &[u32], room: &mut [u8]) {
-    match content::byte(told, 0) {
-        b'w' => transfer::written(writer, words, room),
+fn call(told: &[u8], writer: Shape, reader: Shape, words: &[u32], room: &mut [u8]) {
+    match content::item(told, 0) {
+        b'w' => writer.written(words, room),
         b'r' => {
-            transfer::put(writer, words, room);
+            writer.put(words, room);
             bytes::damage(room, told);
-            transfer::was_read(reader, room, words);
+            reader.was_read(room, words);
         }
         b't' => {
             both_ways(writer, words, room);
             bytes::damage(room, told);
             say::text(b", then");
-            transfer::was_read(reader, room, words);
+            reader.was_read(room, words);
         }
         b'h' => {
             both_ways(writer, words, room);
-            transfer::say_block(room, content::word(reader, 0));
+            transfer::say_block(room, reader.kind);
         }
         _ => both_ways(writer, words, room),
     }
 }
 
-fn both_ways(five: &[u32], words: &[u32], room: &mut [u8]) {
-    transfer::written(five, words, room);
+fn both_ways(shape: Shape, words: &[u32], room: &mut [u8]) {
+    shape.written(words, room);
     say::comma();
-    transfer::was_read(five, room, words);
+    shape.was_read(room, words);
 }

@@ -1,23 +1,17 @@
 // A kind's number, its list's length, and its own N or K; and the kind of a file or a list where a place takes more than one.
 ghost use Rattle.std.specs.Prelude.{◌≡◌, cond, ◌*◌, ◌≤◌};
-ghost use Rattle.block.specs.Kinds.{Told, kind_number, list_length, own_agrees, later, kind_word, says_later, file_kind, list_kind};
+ghost use Rattle.block.specs.Kinds.{kind_number, list_length, own_agrees, later, kind_word, says_later, file_kind, list_kind};
 
 use crate::Kind;
+use crate::inner::size::Size;
 use payload::inner::words::word_at;
 
 // Word 0 of each block.
+#[tactic(auto, unfolding(crate::specs::Kinds::kind_number))]
 pub fn number_of(kind: Kind) -> u32
     ensures { result ≡ kind_number kind }
 {
-    match kind {
-        Kind::Corridor => 1,
-        Kind::CorridorDrop => 10,
-        Kind::Demands => 2,
-        Kind::DemandsDownstream => 5,
-        Kind::Record => 3,
-        Kind::RecordExits => 7,
-        Kind::Plan => 4,
-    }
+    kind as u32
 }
 
 // The words of rows of nodes of c words.
@@ -29,12 +23,12 @@ fn row_words(rows: usize, nodes: usize, c: usize) -> usize
 }
 
 // The words of a list.
-pub fn length_of(kind: Kind, n: u32, k: u32) -> usize
-    requires { Told n k }
-    ensures { (result ≡ list_length kind n k) × (1 ≤ result) × (result ≤ 468327) }
+#[tactic(auto, unfolding(crate::specs::Kinds::list_length))]
+pub fn length_of(kind: Kind, size: Size) -> usize
+    ensures { (result ≡ list_length kind size.links size.steps) × (1 ≤ result) × (result ≤ 468327) }
 {
-    let nodes = n as usize + 1;
-    let steps = k as usize;
+    let nodes = size.links as usize + 1;
+    let steps = size.steps as usize;
     match kind {
         Kind::Corridor => 1 + nodes * 9,
         Kind::CorridorDrop => 1 + nodes * 11,
@@ -47,17 +41,14 @@ pub fn length_of(kind: Kind, n: u32, k: u32) -> usize
 }
 
 // Whether a list's first word is as told.
+#[tactic(auto, unfolding(crate::specs::Kinds::own_agrees))]
 pub fn own_agrees(kind: Kind, n: u32, k: u32, word: u32) -> bool
     ensures { result ≡ own_agrees kind n k word }
 {
     match kind {
-        Kind::Corridor => word == n,
-        Kind::CorridorDrop => word == n,
-        Kind::Demands => word == k,
-        Kind::DemandsDownstream => word == k,
-        Kind::Record => true,
-        Kind::RecordExits => true,
-        Kind::Plan => true,
+        Kind::Corridor | Kind::CorridorDrop => word == n,
+        Kind::Demands | Kind::DemandsDownstream => word == k,
+        Kind::Record | Kind::RecordExits | Kind::Plan => true,
     }
 }
 
@@ -72,16 +63,14 @@ fn kind_word(file: &[u8]) -> u32
 }
 
 // The later kind that also fits the place of a kind, and the kind itself where none does.
+#[tactic(auto, unfolding(crate::specs::Kinds::later))]
 fn later(kind: Kind) -> Kind
     ensures { result ≡ later kind }
 {
     match kind {
-        Kind::Corridor => Kind::CorridorDrop,
-        Kind::CorridorDrop => Kind::CorridorDrop,
-        Kind::Demands => Kind::DemandsDownstream,
-        Kind::DemandsDownstream => Kind::DemandsDownstream,
-        Kind::Record => Kind::RecordExits,
-        Kind::RecordExits => Kind::RecordExits,
+        Kind::Corridor | Kind::CorridorDrop => Kind::CorridorDrop,
+        Kind::Demands | Kind::DemandsDownstream => Kind::DemandsDownstream,
+        Kind::Record | Kind::RecordExits => Kind::RecordExits,
         Kind::Plan => Kind::Plan,
     }
 }
@@ -111,9 +100,8 @@ pub fn file_kind(kind: Kind, file: &[u8]) -> Kind
 }
 
 // The kind of a list of `count` words, where `kind` is the oldest of its place.
-pub fn list_kind(kind: Kind, n: u32, k: u32, count: usize) -> Kind
-    requires { Told n k }
-    ensures { result ≡ list_kind kind n k count }
+pub fn list_kind(kind: Kind, size: Size, count: usize) -> Kind
+    ensures { result ≡ list_kind kind size.links size.steps count }
 {
-    choose(count == length_of(later(kind), n, k), kind)
+    choose(count == length_of(later(kind), size), kind)
 }

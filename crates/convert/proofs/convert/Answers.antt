@@ -1,33 +1,44 @@
 -- Wrong lengths, or what the lists hold, or the plan.
-use Rattle.tables.proofs.Answers.{told_refused, told_accepted, left_refused, left_accepted}
-use Rattle.convert.specs.Convert.{plan_left}
+use mathlib.Core.Path.{sym, ap, ◌∙◌}
+use Rattle.std.proofs.lemmas.Result.{err_from_is_err_and}
+use Rattle.tables.specs.Answer.{answer_of}
+use Rattle.tables.proofs.Answers.{left_refused, left_accepted}
+use Rattle.convert.specs.Convert.{converted_by, plan_left}
 use Rattle.convert.proofs.Answers.{convert_sized, convert_checks, plan_asks}
 use Rattle.convert.proofs.convert.Goals as goal
 
-pub returns-then-is_refused : goal.returns-then-is_refused
+pub returns-in_err-sized : goal.returns-in_err-sized
 unfolding plan_left
-returns-then-is_refused c = let r = told_refused c.sized-size.result _ c.is_refused.ensures c.if-is_refused.true in
-    let e = convert_sized _ _ _ _ _ c.normal_fits.ensures _ c.sized-size.ensures r in record { answered = e; written = left_refused _ _ _ _ e r }
+returns-in_err-sized c =
+    let p = err_from_is_err_and c.from_residual.result c.from_residual.ensures.1 in
+    let e = convert_sized _ _ c.args.words.now _ _ c.normal_fits.ensures _ c.in_err-sized.ensures tt in
+    rw (p.1, p.2) (record { answered = e; written = left_refused _ _ _ _ e tt })
 
-pub returns-then-is_refused-2 : goal.returns-then-is_refused-2
+pub returns-in_err-check : goal.returns-in_err-check
 unfolding plan_left
-returns-then-is_refused-2 c =
-    let r = told_refused c.check-answer.result _ c.is_refused-2.ensures c.if-is_refused-2.true in
-    let g = told_accepted c.sized-size.result _ c.is_refused.ensures c.if-is_refused.false in
-    let e = convert_checks _ _ _ _ _ c.normal_fits.ensures _ c.sized-size.ensures _ g c.check-answer.ensures in
-    record { answered = e; written = left_refused _ _ _ _ e r }
+returns-in_err-check c =
+    let p = err_from_is_err_and c.from_residual-in_err-check.result c.from_residual-in_err-check.ensures.1 in
+    let e = convert_checks _ _ _ _ _ c.normal_fits.ensures _ c.sized.ensures _ (ap answer_of c.in_ok-sized.was) c.in_err-check.ensures in
+    rw (p.1, p.2) (record { answered = e; written = left_refused _ _ _ _ e tt })
 
-pub write_plan-requires : goal.write_plan-requires
-write_plan-requires c =
-    let z = told_accepted c.check-answer.result _ c.is_refused-2.ensures c.if-is_refused-2.false in
-    let g = told_accepted c.sized-size.result _ c.is_refused.ensures c.if-is_refused.false in
-    let all = plan_asks _ _ _ _ _ c.normal_fits.ensures _ c.sized-size.ensures _ g c.check-answer.ensures z in
-    record { ready = all.0; accepted = all.1.0; plan_len = all.1.1 }
+pub proposed-requires : goal.proposed-requires
+proposed-requires c =
+    (plan_asks _ _ _ _ _ c.normal_fits.ensures _ c.sized.ensures _ (ap answer_of c.in_ok-sized.was) c.check.ensures (ap answer_of c.in_ok-check.was)).0
+
+pub write_plan-requires-clause-accepted : goal.write_plan-requires-clause-accepted
+write_plan-requires-clause-accepted c =
+    let is = c.proposed.ensures in
+    rw (is.told.2, is.lent.0, is.lent.1, is.lent.2)
+    (plan_asks _ _ _ _ _ c.normal_fits.ensures _ c.sized.ensures _ (ap answer_of c.in_ok-sized.was) c.check.ensures (ap answer_of c.in_ok-check.was)).1
 
 pub returns : goal.returns
 unfolding plan_left
 returns c =
-    let z = told_accepted c.check-answer.result _ c.is_refused-2.ensures c.if-is_refused-2.false in
-    let g = told_accepted c.sized-size.result _ c.is_refused.ensures c.if-is_refused.false in
-    let e = convert_checks _ _ _ _ _ c.normal_fits.ensures _ c.sized-size.ensures _ g c.check-answer.ensures in
-    record { answered = e; written = left_accepted _ _ _ _ _ e z c.write_plan.ensures }
+    let g = ap answer_of c.in_ok-sized.was in
+    let z = ap answer_of c.in_ok-check.was in
+    let e = convert_checks _ _ _ _ _ c.normal_fits.ensures _ c.sized.ensures _ g c.check.ensures in
+    let is = c.proposed.ensures in
+    record {
+      answered = sym z ∙ e;
+      written = left_accepted _ _ _ _ _ e z (c.write_plan.ensures ∙ (λ x. converted_by (is.told.2 x) (is.lent.0 x) (is.lent.1 x) (is.lent.2 x)));
+    }

@@ -1,21 +1,21 @@
 // The checker on the rows of one step: the first node of a row with refusal 7, and of a step with one of 8 to 12.
 ghost use Rattle.std.specs.Prelude.{◌≡◌, suc, ◌≤◌, ◌<◌};
-ghost use Rattle.tables.specs.Answer.{refusal};
+ghost use Rattle.tables.specs.Answer.{answer_of, refusal};
 ghost use Rattle.tables.specs.First.{first_node};
-ghost use Rattle.road.specs.Run.{inflow};
-ghost use Rattle.lists.specs.Words.{Width};
-ghost use Rattle.lists.specs.Rows.{flows_in, step_road};
-ghost use Rattle.lists.specs.Fits.{CorridorFits, RowFits, NodeIn};
+ghost use Rattle.lists.specs.Fits.{RowFits, NodeIn};
 ghost use Rattle.link_table.specs.Table.{table_of};
 ghost use Rattle.simulate_rows.specs.Rows.{row_cost};
 ghost use Rattle.convert_rows.specs.Rows.{fixed_fault_in, step_fault_in, RowsKept};
 
-use crate::inner::quick;
-use lists::inner::words;
-use road::Units;
-use tables::{Answer, is_refused, refusal};
+use crate::inner::step::Step;
+use lists::inner::corridor::Corridor;
+use lists::inner::demands::Demand;
+use lists::inner::record::Row;
+use tables::inner::first;
+use tables::{Answer, placed};
 
-// What is found of steps: the first refusal, and the vehicles and queues of the states after them.
+// What is found of a step: the first refusal, and the vehicles and queues of the state after it, which stand in its promise also where the step is
+// refused, so that a Result cannot say them.
 #[derive(Clone, Copy)]
 pub struct Found {
     pub answer: Answer,
@@ -23,190 +23,99 @@ pub struct Found {
 }
 
 // Refusal 7 at node i, in the record's row k.
-fn fixed_answer(
-    corridor: &[u32],
-    links: usize,
-    steps: usize,
-    k: usize,
-    row: &[u32],
-    width: usize,
-    i: usize,
-) -> Answer
-    requires corridor_fits { CorridorFits corridor.now links }
-    requires k_bound { (k ≤ 1440) × (i ≤ links) × NodeIn width row.now i × Width width }
-    ensures { result ≡ refusal (fixed_fault_in width corridor.now links steps k row.now i) k i }
+fn fixed_answer(corridor: Corridor<'_>, steps: usize, k: usize, row: Row<'_>, i: usize) -> Answer
+    requires { (k ≤ 1440) × (i ≤ corridor.links) × NodeIn row.width row.words.now i }
+    ensures { answer_of result
+        ≡ refusal (fixed_fault_in row.entry.width corridor.entry.words.now corridor.entry.links steps k row.entry.words.now i) k i }
 {
-    let start = words::start_at(corridor, links, i);
-    let state = words::state_at(row, width, i);
-    let flows = words::flows_at(row, width, i);
-    let said = words::exit_at(row, width, i);
-    let number = record_faults::inner::fixed_fault(links, steps, k, i, start, state, flows, said);
-    refusal(number, k as u32, i as u32)
+    let fault = record_faults::inner::fixed_fault(
+        corridor.links,
+        steps,
+        k,
+        i,
+        corridor.start(i),
+        row.state(i),
+        row.flows(i),
+        row.exit(i),
+    );
+    placed(fault, k as u32, i as u32)
 }
 
 // The first node of the record's row k with refusal 7, node by node.
-fn fixed_nodes(
-    corridor: &[u32],
-    links: usize,
-    steps: usize,
-    k: usize,
-    row: &[u32],
-    width: usize,
-) -> Answer
-    requires corridor_fits { CorridorFits corridor.now links }
-    requires k_bound { (k ≤ 1440) × RowFits width row.now links × Width width }
-    ensures { result ≡ first_node (suc links) k (fixed_fault_in width corridor.now links steps k row.now) }
+fn fixed_nodes(corridor: Corridor<'_>, steps: usize, k: usize, row: Row<'_>) -> Answer
+    requires { (k ≤ 1440) × RowFits row.width row.words.now corridor.links }
+    ensures { answer_of result
+        ≡ first_node (suc corridor.entry.links) k
+        (fixed_fault_in row.entry.width corridor.entry.words.now corridor.entry.links steps k row.entry.words.now) }
 {
-    let nodes = links + 1;
-    let mut i: usize = 0;
-    while i < nodes {
-        let answer = fixed_answer(corridor, links, steps, k, row, width, i);
-        if is_refused(answer) {
-            return answer;
-        }
-        i += 1;
-    }
-    Answer::Accepted
+    first(
+        corridor.nodes(),
+        |i| fixed_answer(corridor, steps, k, row, i),
+    )
 }
 
 // The same in a row between states 0 and K, where zero is fixed at nodes 0 and N alone.
-fn fixed_ends(
-    corridor: &[u32],
-    links: usize,
-    steps: usize,
-    k: usize,
-    row: &[u32],
-    width: usize,
-) -> Answer
-    requires corridor_fits { CorridorFits corridor.now links }
-    requires k_bound { (k ≤ 1440) × RowFits width row.now links × Width width }
+fn fixed_ends(corridor: Corridor<'_>, steps: usize, k: usize, row: Row<'_>) -> Answer
+    requires k_bound { (k ≤ 1440) × RowFits row.width row.words.now corridor.links }
     requires k_nonzero { (0 < k) × (k < steps) }
-    ensures { result ≡ first_node (suc links) k (fixed_fault_in width corridor.now links steps k row.now) }
+    ensures { answer_of result
+        ≡ first_node (suc corridor.entry.links) k
+        (fixed_fault_in row.entry.width corridor.entry.words.now corridor.entry.links steps k row.entry.words.now) }
 {
-    let answer = fixed_answer(corridor, links, steps, k, row, width, 0);
-    if is_refused(answer) {
-        return answer;
-    }
-    fixed_answer(corridor, links, steps, k, row, width, links)
+    fixed_answer(corridor, steps, k, row, 0)?;
+    fixed_answer(corridor, steps, k, row, corridor.links)
 }
 
 // The first node of the record's row k with refusal 7.
-pub fn fixed_row(
-    corridor: &[u32],
-    links: usize,
-    steps: usize,
-    k: usize,
-    row: &[u32],
-    width: usize,
-) -> Answer
-    requires corridor_fits { CorridorFits corridor.now links }
-    requires k_bound { (k ≤ 1440) × RowFits width row.now links × Width width }
-    ensures { result ≡ first_node (suc links) k (fixed_fault_in width corridor.now links steps k row.now) }
+pub fn fixed_row(corridor: Corridor<'_>, steps: usize, k: usize, row: Row<'_>) -> Answer
+    requires { (k ≤ 1440) × RowFits row.width row.words.now corridor.links }
+    ensures { answer_of result
+        ≡ first_node (suc corridor.entry.links) k
+        (fixed_fault_in row.entry.width corridor.entry.words.now corridor.entry.links steps k row.entry.words.now) }
 {
-    if k == 0 {
-        return fixed_nodes(corridor, links, steps, k, row, width);
+    if 0 < k && k < steps {
+        return fixed_ends(corridor, steps, k, row);
     }
-    if k < steps {
-        return fixed_ends(corridor, links, steps, k, row, width);
-    }
-    fixed_nodes(corridor, links, steps, k, row, width)
+    fixed_nodes(corridor, steps, k, row)
 }
 
-// One of refusals 8 to 12 at node i of step k, whose link gains `gained`.
-fn step_answer(
-    k: usize,
-    corridor: &[u32],
-    links: usize,
-    demand: &[u32],
-    downstream: Units,
-    row: &[u32],
-    after: &[u32],
-    width: usize,
-    gained: u32,
-    i: usize,
-) -> Answer
-    requires rows_kept { RowsKept width corridor.now demand.now row.now links }
-    requires row_fits { RowFits width after.now links × (k ≤ 1440) }
-    requires i_le_links { (i ≤ links) × (gained ≤ 134283264) × (gained ≡ inflow (step_road corridor.now demand.now downstream.0) 0 (flows_in width row.now) i) }
-    ensures { result ≡ refusal (step_fault_in width corridor.now demand.now downstream.0 row.now after.now i) k i }
-{
-    let junction = words::junction_at(corridor, links, demand, downstream, row, width, i);
-    let flows = words::flows_at(row, width, i);
-    let said = words::exit_at(row, width, i);
-    let arrivals = words::arrivals_at(demand, i);
-    let state = words::state_at(after, width, i);
-    let number = record_faults::inner::step_fault(
-        junction,
-        flows,
-        said,
-        Units(gained),
-        arrivals,
-        state,
-    );
-    refusal(number, k as u32, i as u32)
-}
-
-// The first node of step k with one of refusals 8 to 12, in the record's rows before and after the step, node by node.
-fn step_nodes(
-    k: usize,
-    corridor: &[u32],
-    links: usize,
-    demand: &[u32],
-    downstream: Units,
-    row: &[u32],
-    after: &[u32],
-    width: usize,
-) -> Answer
-    requires rows_kept { RowsKept width corridor.now demand.now row.now links }
-    requires row_fits { RowFits width after.now links × (k ≤ 1440) }
-    ensures { result ≡ first_node (suc links) k (step_fault_in width corridor.now demand.now downstream.0 row.now after.now) }
-{
-    let nodes = links + 1;
-    let mut gained: u32 = 0;
-    let mut i: usize = 0;
-    while i < nodes {
-        let answer = step_answer(
-            k, corridor, links, demand, downstream, row, after, width, gained, i,
-        );
-        if is_refused(answer) {
-            return answer;
-        }
-        gained = quick::outflow_at(demand, row, width, i);
-        i += 1;
-    }
-    Answer::Accepted
-}
-
-// The same, and the vehicles and queues of the state after the step. Only a step that fails the quick test is looked at node by node.
+// The first node of step k with one of refusals 8 to 12, and the vehicles and queues of the state after the step. Only a step that fails the quick
+// test is looked at node by node.
 pub fn step_row(
-    k: usize,
-    corridor: &[u32],
+    corridor: Corridor<'_>,
     table: &[u32],
-    links: usize,
-    demand: &[u32],
-    downstream: Units,
-    row: &[u32],
-    after: &[u32],
-    width: usize,
+    k: usize,
+    demand: Demand<'_>,
+    row: Row<'_>,
+    after: Row<'_>,
 ) -> Found
-    requires rows_kept { RowsKept width corridor.now demand.now row.now links }
-    requires row_fits { RowFits width after.now links × (k ≤ 1440) × (table.now ≡ table_of corridor.now links) }
-    ensures found { result.answer
-        ≡ first_node (suc links) k
-        (step_fault_in width corridor.now demand.now downstream.0 row.now after.now) }
-    ensures adds { (result.cost ≡ row_cost width links after.now) × (result.cost ≤ 558345748350) }
+    requires rows_kept { RowsKept row.width corridor.words.now demand.row.now row.words.now corridor.links }
+    requires row_fits { RowFits row.width after.words.now corridor.links × (k ≤ 1440)
+        × (table.now ≡ table_of corridor.words.now corridor.links) }
+    requires width { after.width ≡ row.width }
+    ensures found { answer_of result.answer
+        ≡ first_node (suc corridor.entry.links) k
+        (step_fault_in row.entry.width corridor.entry.words.now demand.entry.row.now demand.entry.downstream.0 row.entry.words.now
+        after.entry.words.now) }
+    ensures adds { (result.cost ≡ row_cost row.entry.width corridor.entry.links after.entry.words.now)
+        × (result.cost ≤ 558345748350) }
 {
-    let moves = quick::step_moves(table, links, demand, downstream, row, after, width);
-    if moves.holds {
+    let step = Step {
+        corridor,
+        table,
+        k,
+        demand,
+        row,
+        after,
+    };
+    if let Some(cost) = step.moves() {
         return Found {
-            answer: Answer::Accepted,
-            cost: moves.cost,
+            answer: Ok(()),
+            cost,
         };
     }
-    let answer = step_nodes(k, corridor, links, demand, downstream, row, after, width);
-    let cost = simulate_rows::inner::row_cost(links, after, width);
     Found {
-        answer: answer,
-        cost: cost,
+        answer: step.nodes(),
+        cost: simulate_rows::inner::row_cost(corridor.links, after),
     }
 }

@@ -1,14 +1,16 @@
 -- N and K decide, then the files and the words in them.
-use Rattle.tables.proofs.Answers.{told_refused, told_accepted}
-use Rattle.files.proofs.Answers.{check_wrong, check_told, check_right}
+use mathlib.Core.Path.{ap}
+use Rattle.std.proofs.lemmas.Result.{err_from_is_err_and}
+use Rattle.tables.specs.Answer.{answer_of}
+use Rattle.files.proofs.Answers.{check_wrong, check_right}
 use Rattle.files.proofs.check_files.Goals as goal
 
-pub returns-then-is_refused : goal.returns-then-is_refused
-returns-then-is_refused c = search (check_wrong, told_refused)
-
-pub read_then_check-requires : goal.read_then_check-requires
-read_then_check-requires c = check_told _ _ c.args.corridor.now c.args.demands.now c.args.recorded.now _ c.told_fits.ensures _ c.sized-size.ensures
-    (told_accepted c.sized-size.result _ c.is_refused.ensures c.if-is_refused.false)
+pub returns-in_err-size : goal.returns-in_err-size
+returns-in_err-size c =
+    let p = err_from_is_err_and c.from_residual.result c.from_residual.ensures.1 in
+    rw (p.1, p.2) (check_wrong _ _ _ _ _ _ c.in_err-size.ensures.answered tt)
 
 pub returns : goal.returns
-returns c = search (check_right, told_accepted)
+returns c =
+    let size = c.in_ok-size.ensures.ok in
+    check_right _ _ _ _ _ _ c.told.ensures.answered (ap answer_of c.in_ok-size.was) _ _ size.0 size.1 _ c.read_then_check.ensures

@@ -1,38 +1,54 @@
 -- N, K and the room decide, then the files and the words in them; the plan file is written where they are accepted.
-use Rattle.tables.proofs.Answers.{told_refused, told_accepted}
-use Rattle.files.proofs.Answers.{accepts, convert_wrong, convert_told, convert_left, convert_right}
+use mathlib.Core.Path.{sym, ap, ◌∙◌}
+use Rattle.std.proofs.lemmas.Result.{err_from_is_err_and}
+use Rattle.tables.specs.Answer.{answer_of}
+use Rattle.tables.specs.Answer.{sized}
+use Rattle.files.proofs.Answers.{accepts, first_fails, first_holds, convert_wrong, convert_left, convert_right}
 use Rattle.files.proofs.convert_files.Goals as goal
 
-pub returns-then-is_refused : goal.returns-then-is_refused
-returns-then-is_refused c =
-    let all = convert_wrong _ _ _ _ _ _ _ c.room_fits.ensures _ c.sized-size.ensures
-    (told_refused c.sized-size.result _ c.is_refused.ensures c.if-is_refused.true) in
-    record { answered = all.0; written = all.1 }
+pub returns-in_err-size : goal.returns-in_err-size
+returns-in_err-size c =
+    let p = err_from_is_err_and c.from_residual.result c.from_residual.ensures.1 in
+    let all = convert_wrong _ _ c.args.corridor.now c.args.demands.now c.args.recorded.now c.args.plan.now _
+    (first_fails _ _ _ _ c.in_err-size.ensures.answered tt) tt in
+    rw (p.1, p.2) (record { answered = all.0; written = all.1 })
 
-pub read_then_check-answer-requires : goal.read_then_check-answer-requires
-read_then_check-answer-requires c =
-    (convert_told _ _ c.args.corridor.now c.args.demands.now c.args.recorded.now c.args.plan.now _ c.room_fits.ensures _ c.sized-size.ensures
-    (told_accepted c.sized-size.result _ c.is_refused.ensures c.if-is_refused.false)).0
+pub returns-in_err-sized : goal.returns-in_err-sized
+returns-in_err-sized c =
+    let p = err_from_is_err_and c.from_residual-in_err-sized.result c.from_residual-in_err-sized.ensures.1 in
+    let size = c.in_ok-size.ensures.ok in
+    let all = convert_wrong _ _ c.args.corridor.now c.args.demands.now c.args.recorded.now c.args.plan.now _
+    (first_holds _ _ _ _ _ _ _ c.told.ensures.answered (ap answer_of c.in_ok-size.was) size.0 size.1
+    (c.in_err-sized.ensures ∙ ap sized c.room_fits.ensures)) tt in
+    rw (p.1, p.2) (record { answered = all.0; written = all.1 })
 
-pub returns-then-is_refused-2 : goal.returns-then-is_refused-2
-returns-then-is_refused-2 c =
-    let g = told_accepted c.sized-size.result _ c.is_refused.ensures c.if-is_refused.false in
-    let all = convert_left _ _ _ _ _ _ _ c.room_fits.ensures _ c.sized-size.ensures g _ c.read_then_check-answer.ensures
-    (told_refused c.read_then_check-answer.result _ c.is_refused-2.ensures c.if-is_refused-2.true) in
-    record { answered = all.0; written = all.1 }
+pub returns-in_err-read_then_check : goal.returns-in_err-read_then_check
+returns-in_err-read_then_check c =
+    let p = err_from_is_err_and c.from_residual-in_err-read_then_check.result c.from_residual-in_err-read_then_check.ensures.1 in
+    let size = c.in_ok-size.ensures.ok in
+    let all = convert_left _ _ c.args.corridor.now c.args.demands.now c.args.recorded.now c.args.plan.now _
+    (first_holds _ _ _ _ _ _ _ c.told.ensures.answered (ap answer_of c.in_ok-size.was) size.0 size.1 (c.sized.ensures ∙ ap sized c.room_fits.ensures))
+    (ap answer_of c.in_ok-sized.was) _ _ size.0 size.1 _ c.in_err-read_then_check.ensures tt in
+    rw (p.1, p.2) (record { answered = all.0; written = all.1 })
 
-pub write_plan-requires : goal.write_plan-requires
-write_plan-requires c =
-    let g = told_accepted c.sized-size.result _ c.is_refused.ensures c.if-is_refused.false in
-    let told = convert_told _ _ c.args.corridor.now c.args.demands.now c.args.recorded.now c.args.plan.now _ c.room_fits.ensures _
-    c.sized-size.ensures g in
-    let x = accepts _ _ _ _ _ _ told.0 c.read_then_check-answer.ensures
-    (told_accepted c.read_then_check-answer.result _ c.is_refused-2.ensures c.if-is_refused-2.false) in
-    record { files_fit = x.0; accepts = x.1; holds = told.1 }
+pub invariant_of-write_plan : goal.invariant_of-write_plan
+invariant_of-write_plan c =
+    record {
+      fit =
+          (accepts _ _ c.args.corridor.now c.args.demands.now c.args.recorded.now _ c.in_ok-size.size.told c.read_then_check.ensures
+          (ap answer_of c.in_ok-read_then_check.was)).0;
+    }
+
+pub write_plan-requires-clause-accepts : goal.write_plan-requires-clause-accepts
+write_plan-requires-clause-accepts c =
+    (accepts _ _ c.args.corridor.now c.args.demands.now c.args.recorded.now _ c.in_ok-size.size.told c.read_then_check.ensures
+    (ap answer_of c.in_ok-read_then_check.was)).1
 
 pub returns : goal.returns
 returns c =
-    let g = told_accepted c.sized-size.result _ c.is_refused.ensures c.if-is_refused.false in
-    let all = convert_right _ _ _ _ _ _ _ c.room_fits.ensures _ c.sized-size.ensures g _ c.read_then_check-answer.ensures
-    (told_accepted c.read_then_check-answer.result _ c.is_refused-2.ensures c.if-is_refused-2.false) _ c.write_plan.ensures in
-    record { answered = all.0; written = all.1 }
+    let size = c.in_ok-size.ensures.ok in
+    let done = ap answer_of c.in_ok-read_then_check.was in
+    let all = convert_right _ _ c.args.corridor.now c.args.demands.now c.args.recorded.now c.args.plan.now _
+    (first_holds _ _ _ _ _ _ _ c.told.ensures.answered (ap answer_of c.in_ok-size.was) size.0 size.1 (c.sized.ensures ∙ ap sized c.room_fits.ensures))
+    (ap answer_of c.in_ok-sized.was) _ _ size.0 size.1 _ c.read_then_check.ensures done _ c.write_plan.ensures in
+    record { answered = sym done ∙ all.0; written = all.1 }

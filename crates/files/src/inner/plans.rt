@@ -1,105 +1,93 @@
 // The plan file of a record that is accepted: each step's row is put where it stands, then the blocks are sealed.
 ghost use Rattle.std.specs.Prelude.{◌≡◌, ◌+◌, ◌*◌, ◌<◌, length};
-ghost use Rattle.lists.specs.Words.{plan_length};
+ghost use Rattle.tables.specs.Answer.{Accepted};
+ghost use Rattle.lists.specs.Words.{road_of, plan_length};
+ghost use Rattle.convert.specs.Refusals.{judged};
 ghost use Rattle.convert.specs.Convert.{converted_by};
 ghost use Rattle.payload.specs.File.{payload_of, put_payload};
 ghost use Rattle.payload.specs.Word.{Words};
-ghost use Rattle.file_rows.specs.Words.{corridor_count, demands_in, record_in};
-ghost use Rattle.files.specs.Files.{plan_file};
+ghost use Rattle.file_rows.specs.Words.{demands_in, record_in};
 ghost use Rattle.file_rows.specs.Rows.{Holds};
-ghost use Rattle.files.specs.Fits.{FilesFit, Accepts, FilesKept, plan_row_in};
+ghost use Rattle.files.specs.Files.{plan_file};
+ghost use Rattle.files.specs.Fits.{Accepts, plan_row_in};
 
+use crate::inner::answers::ReadFiles;
+use block::Kind;
+use block::inner::kinds;
+use file_scans::inner::proposal::FileProposal;
+use lists::inner::demands::Demand;
+use lists::inner::record::Row;
 use lists::inner::rows;
 use payload::inner::place;
 use seals::inner::sealing;
 
 // The settings of step k, put into the plan file.
-fn put_step(
-    corridor: &[u32],
-    demands: &[u8],
-    links: usize,
-    steps: usize,
-    recorded: &[u8],
-    width: usize,
-    k: usize,
-    plan: &mut [u8],
-)
-    requires files_kept { FilesKept width links steps corridor.now demands.now recorded.now }
-    requires k_lt_steps { (k < steps) × Holds (plan_length links steps) plan.old }
-    ensures { (plan.new ≡ put_payload plan.old (k * ((links + 1) * 2)) (plan_row_in width corridor.now links steps demands.now recorded.now k)) × Words (plan_row_in width corridor.now links steps demands.now recorded.now k) }
+fn put_step(proposal: FileProposal<'_>, k: usize, plan: &mut [u8])
+    requires judges { judged proposal.record.width
+        (road_of proposal.corridor.words.now
+        (demands_in proposal.corridor.links proposal.demands.steps proposal.demands.bytes.now))
+        (record_in proposal.record.width proposal.corridor.links proposal.demands.steps proposal.record.bytes.now)
+        ≡ Accepted }
+    requires k_lt_steps { (k < proposal.demands.steps) × Holds (plan_length proposal.corridor.links proposal.demands.steps) plan.old }
+    ensures put { plan.new
+        ≡ put_payload plan.old (k * ((proposal.entry.corridor.links + 1) * 2))
+        (plan_row_in proposal.entry.record.width proposal.entry.corridor.words.now proposal.entry.corridor.links
+        proposal.entry.demands.steps proposal.entry.demands.bytes.now proposal.entry.record.bytes.now k) }
+    ensures words { Words
+        (plan_row_in proposal.entry.record.width proposal.entry.corridor.words.now proposal.entry.corridor.links
+        proposal.entry.demands.steps proposal.entry.demands.bytes.now proposal.entry.record.bytes.now k) }
 {
-    let narrow = (links + 1) * 2;
-    let wide = rows::state_words(links, width);
+    let width = proposal.record.width;
+    let narrow = proposal.corridor.nodes() * 2;
+    let wide = proposal.corridor.nodes() * width;
     let mut demand_room = [0u32; 130];
-    let demand = &mut demand_room[..narrow];
+    let row = &mut demand_room[..narrow];
+    proposal.demands.row(k, row);
+    let downstream = proposal.demands.downstream(k);
     let mut room = [0u32; 325];
-    let row = &mut room[..wide];
-    file_rows::inner::step_rows(demands, recorded, links, steps, width, k, demand, row);
+    let words = &mut room[..wide];
+    proposal.record.row(k, words);
     let mut plan_room = [0u32; 130];
     let out = &mut plan_room[..narrow];
-    let downstream = file_rows::inner::downstream(demands, links, steps, k);
-    convert_rows::inner::plans::plan_row(corridor, links, demand, downstream, row, width, out);
-    place::put(plan, rows::row_at(k, narrow, steps), out);
+    convert_rows::inner::plans::plan_row(
+        proposal.corridor,
+        Demand { row, downstream },
+        Row { words, width },
+        out,
+    );
+    place::put(plan, rows::row_at(k, narrow, proposal.demands.steps), out);
 }
 
 // The settings of all steps, put into the plan file.
-fn put_steps(
-    corridor: &[u32],
-    demands: &[u8],
-    links: usize,
-    steps: usize,
-    recorded: &[u8],
-    width: usize,
-    plan: &mut [u8],
-)
-    requires files_kept { FilesKept width links steps corridor.now demands.now recorded.now }
-    requires holds { Holds (plan_length links steps) plan.old }
-    ensures { (payload_of (plan_length links steps) plan.new ≡ converted_by width corridor.now (demands_in links steps demands.now) (record_in width links steps recorded.now)) × Holds (plan_length links steps) plan.new }
+fn put_steps(proposal: FileProposal<'_>, plan: &mut [u8])
+    requires judges { judged proposal.record.width
+        (road_of proposal.corridor.words.now
+        (demands_in proposal.corridor.links proposal.demands.steps proposal.demands.bytes.now))
+        (record_in proposal.record.width proposal.corridor.links proposal.demands.steps proposal.record.bytes.now)
+        ≡ Accepted }
+    requires holds { Holds (plan_length proposal.corridor.links proposal.demands.steps) plan.old }
+    ensures put { payload_of (plan_length proposal.entry.corridor.links proposal.entry.demands.steps) plan.new
+        ≡ converted_by proposal.entry.record.width proposal.entry.corridor.words.now
+        (demands_in proposal.entry.corridor.links proposal.entry.demands.steps proposal.entry.demands.bytes.now)
+        (record_in proposal.entry.record.width proposal.entry.corridor.links proposal.entry.demands.steps proposal.entry.record.bytes.now) }
+    ensures holds { Holds (plan_length proposal.entry.corridor.links proposal.entry.demands.steps) plan.new }
 {
-    let mut k: usize = 0;
-    while k < steps {
-        put_step(corridor, demands, links, steps, recorded, width, k, plan);
-        k += 1;
+    for k in 0..proposal.demands.steps {
+        put_step(proposal, k, plan);
     }
 }
 
-// The plan file, with room for the corridor's words.
-fn fill_plan(
-    links: usize,
-    steps: usize,
-    corridor: &[u8],
-    list: &mut [u32],
-    demands: &[u8],
-    recorded: &[u8],
-    plan: &mut [u8],
-)
-    requires files_fit { FilesFit links steps corridor.now demands.now recorded.now }
-    requires accepts { Accepts links steps corridor.now demands.now recorded.now }
-    requires list_len { (length list.old ≡ corridor_count links corridor.now) × Holds (plan_length links steps) plan.old }
-    ensures { plan.new ≡ plan_file links steps corridor.now demands.now recorded.now }
-{
-    place::unpack(corridor, 0, list);
-    let width = file_rows::inner::record_width(recorded);
-    put_steps(list, demands, links, steps, recorded, width, plan);
-    sealing::seal(4, rows::table_length(steps, (links + 1) * 2), plan);
-}
-
 // The plan file of files that the checker accepts.
-pub fn write_plan(
-    links: usize,
-    steps: usize,
-    corridor: &[u8],
-    demands: &[u8],
-    recorded: &[u8],
-    plan: &mut [u8],
-)
-    requires files_fit { FilesFit links steps corridor.now demands.now recorded.now }
-    requires accepts { Accepts links steps corridor.now demands.now recorded.now }
-    requires holds { Holds (plan_length links steps) plan.old }
-    ensures { plan.new ≡ plan_file links steps corridor.now demands.now recorded.now }
+pub fn write_plan(read: ReadFiles<'_>, plan: &mut [u8])
+    requires accepts { Accepts read.size.links read.size.steps read.files.corridor.now read.files.demands.now read.files.recorded.now }
+    requires holds { Holds (plan_length read.size.links read.size.steps) plan.old }
+    ensures { plan.new
+        ≡ plan_file read.entry.size.links read.entry.size.steps read.entry.files.corridor.now read.entry.files.demands.now
+        read.entry.files.recorded.now }
 {
-    let count = file_rows::inner::corridor_count(links, corridor);
     let mut room = [0u32; 716];
-    let list = &mut room[..count];
-    fill_plan(links, steps, corridor, list, demands, recorded, plan);
+    let proposal = read.proposal(&mut room);
+    put_steps(proposal, plan);
+    let count = kinds::length_of(Kind::Plan, read.size);
+    sealing::seal(kinds::number_of(Kind::Plan), count, plan);
 }

@@ -1,7 +1,23 @@
-// The rows of the word lists: how many words they have, and where each begins.
-ghost use Rattle.std.specs.Prelude.{◌≡◌, suc, ◌+◌, ◌*◌, ◌≤◌, ◌<◌, set};
+// The rows of the word lists: how many words they have, where each begins, and a word of one.
+ghost use Rattle.std.specs.Prelude.{◌≡◌, suc, ◌+◌, ◌*◌, ◌≤◌, ◌<◌, get_or, set};
 ghost use Rattle.lists.specs.Words.{Width};
 ghost use Rattle.lists.specs.Fits.{NodeIn};
+
+// The word that opens a list, 0 where the list is empty.
+pub fn opening(list: &[u32]) -> usize
+    ensures { result ≡ get_or list.now 0 0 }
+{
+    list.first().copied().unwrap_or(0) as usize
+}
+
+// Word q of node i in a row that has `width` words for each node.
+pub fn word(row: &[u32], width: usize, i: usize, q: usize) -> u32
+    requires node_in { NodeIn width row.now i }
+    requires q_lt_width { q < width }
+    ensures { result ≡ get_or row.now (i * width + q) 0 }
+{
+    row[i * width + q]
+}
 
 // How many words `rows` rows of `width` words have.
 pub fn table_length(rows: usize, width: usize) -> usize

@@ -4,47 +4,37 @@ ghost use Rattle.normal.specs.Fits.{received, Within};
 
 use std::io::{Read, Stdin};
 
-#[derive(Clone, Copy)]
-pub enum Received {
-    // So many bytes were put at the room's start; a single read puts none at the input's end.
-    Bytes(usize),
-    // A read failed, so that nothing is known of the rest.
-    Failed,
-}
-
-// What the C library's answer to a read into a buffer says.
-fn said(answer: isize, buffer: &[u8]) -> Received
+// What the C library's answer to a read into a buffer says, as `received` defines it: so many bytes were put at its start, none at the input's end; or the read
+// failed, so that nothing is known of the rest.
+fn said(answer: isize, buffer: &[u8]) -> Option<usize>
     ensures { (result ≡ received answer (length buffer.now)) × Within result buffer.now }
 {
     if answer < 0 {
-        return Received::Failed;
+        return None;
     }
-    Received::Bytes(io::count(answer, buffer))
+    Some(io::count(answer, buffer))
 }
 
 // What a read of standard input into a buffer answers, as the C library says it: below zero where it failed.
 fn answer_of(input: &mut Stdin, buffer: &mut [u8]) -> isize {
-    let Ok(count) = input.read(buffer) else {
-        return -1;
-    };
-    count as isize
+    match input.read(buffer) {
+        Ok(count) => count as isize,
+        Err(_) => -1,
+    }
 }
 
-// Reads until the room is full, the input ends or a read fails.
-pub fn receive(input: &mut Stdin, room: &mut [u8]) -> Received
+// Reads until the room is full, the input ends or a read fails: on by as many bytes as a read gave, which no `for` counts.
+pub fn receive(input: &mut Stdin, room: &mut [u8]) -> Option<usize>
     ensures { Within result room.new }
 {
-    let mut done: usize = 0;
+    let mut done = 0;
     while done < room.len() {
         let answer = answer_of(input, &mut room[done..]);
-        let read = said(answer, &room[done..]);
-        let Received::Bytes(more) = read else {
-            return Received::Failed;
-        };
+        let more = said(answer, &room[done..])?;
         if more == 0 {
-            return Received::Bytes(done);
+            break;
         }
         done += more;
     }
-    Received::Bytes(done)
+    Some(done)
 }

@@ -11,11 +11,7 @@ fn run_of(j: usize, left: usize) -> usize
     requires { 1 ≤ left }
     ensures { (1 ≤ result) × (result ≤ left) × (j % 125 + result ≤ 125) }
 {
-    let room = 125 - j % 125;
-    if left < room {
-        return left;
-    }
-    room
+    left.min(125 - j % 125)
 }
 
 // Payload word j of a file.
@@ -31,14 +27,13 @@ fn copy_run(file: &[u8], first: usize, words: &mut [u32])
     requires { (first + length words.old) * 4 ≤ length file.now }
     ensures { words.new ≡ tabulate (length words.old) (λ q. word_at file.now (first + q)) }
 {
-    let mut q = 0;
-    while q < words.len() {
+    for q in 0..words.len() {
         words[q] = words::word_at(file, first + q);
-        q += 1;
     }
 }
 
-// The payload's words from word `from` on, as many as the lent list takes: block by block.
+// The payload's words from word `from` on, as many as the lent list takes: block by block. A turn takes a run of words, of whatever length its
+// block leaves, so the loop counts words and not turns.
 pub fn unpack(file: &[u8], from: usize, words: &mut [u32])
     requires { blocks_for (from + length words.old) * 512 ≤ length file.now }
     ensures { words.new ≡ payload_part from (length words.old) file.now }
@@ -59,14 +54,13 @@ fn put_run(file: &mut [u8], j: usize, words: &[u32])
     ensures { file.new ≡ put_payload file.old j words.now }
 {
     let first = j / 125 * 128 + (2 + j % 125);
-    let mut q = 0;
-    while q < words.len() {
-        words::put_word(file, first + q, words[q]);
-        q += 1;
+    for (q, word) in words.iter().enumerate() {
+        words::put_word(file, first + q, *word);
     }
 }
 
-// Words put as payload words `from` and on, block by block. Each of them fits 32 bits, and a caller may rely on that.
+// Words put as payload words `from` and on, block by block, a run at a time as `unpack` does. Each of them fits 32 bits, and a caller may rely
+// on that.
 pub fn put(file: &mut [u8], from: usize, words: &[u32])
     requires { blocks_for (from + length words.now) * 512 ≤ length file.old }
     ensures { (file.new ≡ put_payload file.old from words.now) × Words words.now }

@@ -1,5 +1,6 @@
 // What refuses a file by 14 to 18.
 ghost use Rattle.std.specs.Prelude.{◌≡◌, ◌+◌, ◌-◌, ◌*◌, ◌%◌, ◌≤◌, ◌<◌, length};
+ghost use Rattle.tables.specs.Answer.{answer_of, fault_number};
 ghost use Rattle.tables.specs.First.{first};
 ghost use Rattle.payload.specs.Word.{word_at};
 ghost use Rattle.payload.specs.Block.{check_word};
@@ -8,7 +9,8 @@ ghost use Rattle.seals.specs.Lanes.{lanes_check};
 ghost use Rattle.seals.specs.Reading.{tested, block_answer, padding_answer, payload_answer};
 
 use payload::inner::{place, words};
-use tables::{Answer, is_refused, refusal};
+use tables::inner::first;
+use tables::{Answer, Fault, placed, unless};
 
 // Every fourth word of a block: the sum of those so far, modulo 2 ^ 32, and the sum of all that it has been.
 #[derive(Clone, Copy)]
@@ -17,22 +19,16 @@ pub struct Lane {
     pub twice: u32,
 }
 
-// A sum modulo 2 ^ 32.
-fn wrapped(a: u32, b: u32) -> u32
-    ensures { result ≡ (a + b) % 4294967296 }
-{
-    (((a as u64) + (b as u64)) % 4294967296) as u32
-}
-
-// A lane with word j of a file.
-fn with_word(lane: Lane, file: &[u8], j: usize) -> Lane
-    requires { j * 4 + 4 ≤ length file.now }
-    ensures { (result.sum ≡ (lane.sum + word_at file.now j) % 4294967296) × (result.twice ≡ (lane.twice + result.sum) % 4294967296) }
-{
-    let sum = wrapped(lane.sum, words::word_at(file, j));
-    Lane {
-        sum: sum,
-        twice: wrapped(lane.twice, sum),
+impl Lane {
+    // The lane with one word more.
+    fn with(self, word: u32) -> Lane
+        ensures { (result.sum ≡ (self.sum + word) % 4294967296) × (result.twice ≡ (self.twice + result.sum) % 4294967296) }
+    {
+        let sum = self.sum.wrapping_add(word);
+        Lane {
+            sum,
+            twice: self.twice.wrapping_add(sum),
+        }
     }
 }
 
@@ -50,100 +46,73 @@ fn lanes_check(a: Lane, b: Lane, c: Lane, d: Lane, last: u32) -> u32
     ((plus + (1288490188800 - minus)) % 4294967296) as u32
 }
 
-// The check word of block t, from its words 0 to 126: by sums alone, four words side by side, since products take three times as long.
+// The check word of block t, from its words 0 to 126: by sums alone, since products take three times as long. The four lanes are four variables,
+// so that their sums are made side by side: an array of lanes, gone through by a loop, would be a second loop and no plainer.
 pub fn check_word(file: &[u8], t: usize) -> u32
     requires { t * 512 + 512 ≤ length file.now }
     ensures { result ≡ check_word (word_in file.now t) }
 {
     let first = t * 128;
     let mut a = Lane { sum: 0, twice: 0 };
-    let mut b = Lane { sum: 0, twice: 0 };
-    let mut c = Lane { sum: 0, twice: 0 };
-    let mut d = Lane { sum: 0, twice: 0 };
-    let mut q: usize = 0;
-    while q < 32 {
+    let mut b = a;
+    let mut c = a;
+    let mut d = a;
+    for q in 0..32 {
         let at = first + q * 4;
-        a = with_word(a, file, at);
-        b = with_word(b, file, at + 1);
-        c = with_word(c, file, at + 2);
-        d = with_word(d, file, at + 3);
-        q += 1;
+        a = a.with(words::word_at(file, at));
+        b = b.with(words::word_at(file, at + 1));
+        c = c.with(words::word_at(file, at + 2));
+        d = d.with(words::word_at(file, at + 3));
     }
     lanes_check(a, b, c, d, words::word_at(file, first + 127))
 }
 
 // A refusal at a row, unless the test holds.
-fn tested(fits: bool, number: u32, row: u32) -> Answer
-    ensures { result ≡ tested fits number row }
+fn tested(fits: bool, fault: Fault, row: u32) -> Answer
+    ensures { answer_of result ≡ tested fits (fault_number fault) row }
 {
-    if fits {
-        return Answer::Accepted;
-    }
-    refusal(number, row, 0)
+    placed(unless(fits, fault), row, 0)
 }
 
-// 15, 16, 17 of block t.
+// 15, 16, 17 of block t. The kind is a number, since a file's blocks may be of any kind, and the clauses speak of every number.
 fn block_answer(kind: u32, file: &[u8], t: usize) -> Answer
     requires { (t * 512 + 512 ≤ length file.now) × (t < 4294967296) }
-    ensures { result ≡ block_answer kind file.now t }
+    ensures { answer_of result ≡ block_answer kind file.now t }
 {
     let first = t * 128;
     let row = t as u32;
     let check = words::word_at(file, first + 127);
     let right = check_word(file, t);
-    let whole = tested(check == right, 15, row);
-    if is_refused(whole) {
-        return whole;
-    }
+    tested(check == right, Fault::Check, row)?;
     let named = words::word_at(file, first);
-    let like = tested(named == kind, 16, row);
-    if is_refused(like) {
-        return like;
-    }
+    tested(named == kind, Fault::Kind, row)?;
     let number = words::word_at(file, first + 1);
-    tested(number == row, 17, row)
+    tested(number == row, Fault::Number, row)
 }
 
 // The first block that is refused.
 fn blocks_answer(kind: u32, file: &[u8], blocks: usize) -> Answer
     requires { (length file.now ≡ blocks * 512) × (blocks ≤ 4294967296) }
-    ensures { result ≡ first blocks (block_answer kind file.now) }
+    ensures { answer_of result ≡ first blocks (block_answer kind file.now) }
 {
-    let mut t: usize = 0;
-    while t < blocks {
-        let answer = block_answer(kind, file, t);
-        if is_refused(answer) {
-            return answer;
-        }
-        t += 1;
-    }
-    Answer::Accepted
+    first(blocks, |t| block_answer(kind, file, t))
 }
 
 // 18 at word i after the payload's end.
 fn padding_at(m: usize, file: &[u8], blocks: usize, i: usize) -> Answer
     requires { (length file.now ≡ blocks * 512) × (blocks ≡ blocks_for m) × (m ≤ 4294967295) × (i < blocks * 125 - m) }
-    ensures { result ≡ padding_answer m file.now i }
+    ensures { answer_of result ≡ padding_answer m file.now i }
 {
     let word = place::word_of(file, m + i);
-    tested(word == 0, 18, (blocks - 1) as u32)
+    tested(word == 0, Fault::Padding, (blocks - 1) as u32)
 }
 
 // 18 at the first word after the payload that is not zero.
 fn padding_answer(m: usize, file: &[u8], blocks: usize) -> Answer
     requires { (length file.now ≡ blocks * 512) × (blocks ≡ blocks_for m) × (m ≤ 4294967295) }
-    ensures { result ≡ first (blocks * 125 - m) (padding_answer m file.now) }
+    ensures { answer_of result ≡ first (blocks * 125 - m) (padding_answer m file.now) }
 {
-    let rest = blocks * 125 - m;
-    let mut i: usize = 0;
-    while i < rest {
-        let answer = padding_at(m, file, blocks, i);
-        if is_refused(answer) {
-            return answer;
-        }
-        i += 1;
-    }
-    Answer::Accepted
+    first(blocks * 125 - m, |i| padding_at(m, file, blocks, i))
 }
 
 // How many blocks m words take.
@@ -157,16 +126,10 @@ pub fn blocks_for(m: usize) -> usize
 // 14 to 18 of a file of m payload words.
 pub fn payload_answer(kind: u32, m: usize, file: &[u8]) -> Answer
     requires { m ≤ 4294967295 }
-    ensures { result ≡ payload_answer kind m file.now }
+    ensures { answer_of result ≡ payload_answer kind m file.now }
 {
     let blocks = blocks_for(m);
-    let size = tested(file.len() == blocks * 512, 14, 0);
-    if is_refused(size) {
-        return size;
-    }
-    let answer = blocks_answer(kind, file, blocks);
-    if is_refused(answer) {
-        return answer;
-    }
+    tested(file.len() == blocks * 512, Fault::Bytes, 0)?;
+    blocks_answer(kind, file, blocks)?;
     padding_answer(m, file, blocks)
 }

@@ -12,12 +12,8 @@ fn clear(block: &mut [u8], left: usize)
     requires { length block.old ≡ 512 }
     ensures { Cleared block.old left block.new }
 {
-    let mut i = left;
-    while i < 125 {
-        words::put_word(block, 2 + i, 0);
-        i += 1;
-    }
-    words::put_word(block, 127, 0);
+    let at = (2 + left.min(125)) * 4;
+    block[at..].fill(0);
 }
 
 // One block, whose first `left` payload words stand.
@@ -46,11 +42,7 @@ fn words_in(m: usize, t: usize) -> usize
     requires { t < blocks_for m }
     ensures { result ≡ min 125 (m - t * 125) }
 {
-    let left = m - t * 125;
-    if left < 125 {
-        return left;
-    }
-    125
+    (m - t * 125).min(125)
 }
 
 // The file of a payload. Each block is put and sealed before the next one, while its bytes are at hand.
@@ -60,14 +52,12 @@ pub fn write(kind: u32, words: &[u32], file: &mut [u8])
 {
     let m = words.len();
     let blocks = reading::blocks_for(m);
-    let mut t: usize = 0;
-    while t < blocks {
+    for t in 0..blocks {
         let from = t * 125;
         let to = from + words_in(m, t);
         let at = t * 512;
         let end = at + 512;
         write_block(kind, t as u32, &words[from..to], &mut file[at..end]);
-        t += 1;
     }
 }
 
@@ -77,11 +67,9 @@ pub fn seal(kind: u32, m: usize, file: &mut [u8])
     ensures { file.new ≡ file_of kind (payload_of m file.old) }
 {
     let blocks = reading::blocks_for(m);
-    let mut t: usize = 0;
-    while t < blocks {
+    for t in 0..blocks {
         let at = t * 512;
         let end = at + 512;
         seal_block(kind, t as u32, m - t * 125, &mut file[at..end]);
-        t += 1;
     }
 }

@@ -1,7 +1,6 @@
--- The number at the words that are given is the one at the words of the nodes.
-use borrow.Author.Rules.{rules}
-use Rattle.nodes.proofs.Answers.{check_answer_lem}
+-- The answer fits one number.
+use Rattle.host.proofs.Answers.{numbers}
 use Rattle.host.proofs.on_nodes.gigorchid_check_nodes.Goals as goal
 
-pub returns : goal.returns
-returns c = search (rules, check_answer_lem)
+pub number-requires : goal.number-requires
+number-requires c = search numbers

@@ -2,11 +2,5 @@
 use Rattle.host.proofs.Answers.{numbers}
 use Rattle.host.proofs.on_words.gigorchid_check_words.Goals as goal
 
-pub check-answer-requires : goal.check-answer-requires
-check-answer-requires c = search numbers
-
 pub number-requires : goal.number-requires
 number-requires c = search numbers
-
-pub returns : goal.returns
-returns c = search numbers

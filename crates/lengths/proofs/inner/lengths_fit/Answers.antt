@@ -1,29 +1,21 @@
--- Each test picks the case of `◌&&◌`.
+-- N and K are tested first, then the corridor, then the demands.
+use mathlib.Core.Bool.{true≢false}
 use mathlib.Core.Path.{sym, ◌∙◌}
-use Rattle.tables.proofs.Sets.{tests}
-use Rattle.lengths.specs.Lengths.{lengths_fit}
+use Rattle.lengths.proofs.Sizes.{range_fails, corridor_fails, demands_decide}
+use Rattle.lengths.proofs.inner.lengths_fit.Goals.{then-in_range, else-in_range}
 use Rattle.lengths.proofs.inner.lengths_fit.Goals as goal
 
-pub returns-then-links-lt1 : goal.returns-then-links-lt1
-unfolding lengths_fit
-returns-then-links-lt1 c = search tests
-
-pub returns-then-links-gt64 : goal.returns-then-links-gt64
-unfolding lengths_fit
-returns-then-links-gt64 c = search tests
-
-pub returns-then-steps-lt1 : goal.returns-then-steps-lt1
-unfolding lengths_fit
-returns-then-steps-lt1 c = search tests
-
-pub returns-then-steps-gt1440 : goal.returns-then-steps-gt1440
-unfolding lengths_fit
-returns-then-steps-gt1440 c = search tests
-
 pub returns-then-corridor_sized : goal.returns-then-corridor_sized
-unfolding lengths_fit
-returns-then-corridor_sized c = search (tests, sym c.corridor_sized.ensures ∙ c.if-corridor_sized.true, ← c.demands_sized.ensures)
+returns-then-corridor_sized c =
+    elim c.if-in_range.branch [
+      | then-in_range w ↦ demands_decide _ _ _ _ _ c.in_range.ensures _ _ w.if-in_range.true w.corridor_sized.ensures (sym w.value-is ∙ c.if-corridor_sized.true) c.demands_sized.ensures
+      | else-in_range w ↦ absurd (true≢false (sym c.if-corridor_sized.true ∙ w.value-is ∙ w.if-in_range.false))
+    ]
 
-pub returns : goal.returns
-unfolding lengths_fit
-returns c = search (tests, sym c.corridor_sized.ensures ∙ c.if-corridor_sized.false)
+pub returns-else-corridor_sized : goal.returns-else-corridor_sized
+returns-else-corridor_sized c =
+    elim c.if-in_range.branch [
+      | then-in_range w ↦
+          c.if-corridor_sized.false ∙ corridor_fails _ _ _ _ _ c.in_range.ensures _ w.if-in_range.true w.corridor_sized.ensures (sym w.value-is ∙ c.if-corridor_sized.false)
+      | else-in_range w ↦ c.if-corridor_sized.false ∙ range_fails _ _ _ _ _ c.in_range.ensures w.if-in_range.false
+    ]

@@ -10,5 +10,6 @@ pub returns-then-count-record_length : goal.returns-then-count-record_length
 returns-then-count-record_length c =
     (told_seven _ _ _ _ c.record_length.ensures c.if-count-record_length.true, record { least = omega arith; most = omega arith })
 
-pub returns : goal.returns
-returns c = (told_three _ _ _ _ c.record_length.ensures c.if-count-record_length.false, record { least = omega arith; most = omega arith })
+pub returns-else-count-record_length : goal.returns-else-count-record_length
+returns-else-count-record_length c =
+    (told_three _ _ _ _ c.record_length.ensures c.if-count-record_length.false, record { least = omega arith; most = omega arith })

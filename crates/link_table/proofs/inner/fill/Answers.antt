@@ -1,5 +1,6 @@
 use mathlib.Core.Path.{sym}
 use borrow.Author.Rules.{rules}
+use native.Mathlib.Omega.{arith}
 use Rattle.link_table.proofs.Table.{tabled_begun, tabled_more, tabled_room, tabled_ended}
 use Rattle.link_table.proofs.inner.fill.Goals as goal
 
@@ -10,7 +11,7 @@ pub put_link-requires : goal.put_link-requires
 put_link-requires c = search (tabled_room, rules)
 
 pub loop-i-preserved : goal.loop-i-preserved
-loop-i-preserved c = search (tabled_more, rules)
+loop-i-preserved c = tabled_more c.loop-i.i _ _ _ _ _ _ _ c.loop-i.invariant (omega arith) c.link.ensures c.ramp.ensures c.put_link.ensures
 
 pub shape_of-table : goal.shape_of-table
 shape_of-table c = sym c.loop-i.invariant.is.same

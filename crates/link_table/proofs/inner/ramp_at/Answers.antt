@@ -4,4 +4,4 @@ use Rattle.link_table.proofs.inner.ramp_at.Goals as goal
 
 pub returns : goal.returns
 unfolding ramp_in
-returns c = simp (c.row_word.ensures, c.row_word-2.ensures)
+returns c = simp (c.word.ensures, c.word-2.ensures)

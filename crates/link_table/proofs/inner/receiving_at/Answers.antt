@@ -8,8 +8,8 @@ use Rattle.link_table.proofs.inner.receiving_at.Goals as goal
 
 pub receiving-requires : goal.receiving-requires
 unfolding state_in
-receiving-requires c = omega (arith, c.requires.jam_kept, ap (λ (x : Link). x.jam) c.link_at-link.ensures, c.row_word.ensures)
+receiving-requires c = omega (arith, c.requires.jam_kept, ap (λ (x : Link). x.jam) c.link_at-link.ensures, c.word.ensures)
 
 pub returns : goal.returns
 unfolding state_in
-returns c = c.receiving.ensures ∙ ap₂ receiving c.link_at-link.ensures c.row_word.ensures
+returns c = c.receiving.ensures ∙ ap₂ receiving c.link_at-link.ensures c.word.ensures

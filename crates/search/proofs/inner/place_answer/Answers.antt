@@ -1,13 +1,14 @@
 -- 1, or what the checker answers.
-use Rattle.tables.proofs.Answers.{told_refused, told_accepted}
+use mathlib.Core.Path.{ap}
+use Rattle.std.proofs.lemmas.Result.{err_from_is_err_and}
+use Rattle.tables.specs.Answer.{answer_of}
 use Rattle.search.proofs.Places.{place_sized, place_checks}
 use Rattle.search.proofs.inner.place_answer.Goals as goal
 
-pub returns-then-is_refused : goal.returns-then-is_refused
-returns-then-is_refused c =
-    place_sized _ _ _ _ _ _ _ c.place_fits.ensures _ c.sized-size.ensures
-    (told_refused c.sized-size.result _ c.is_refused.ensures c.if-is_refused.true)
+pub returns-in_err-sized : goal.returns-in_err-sized
+returns-in_err-sized c =
+    let p = err_from_is_err_and c.from_residual.result c.from_residual.ensures.1 in
+    rw (p.1, p.2) (place_sized _ _ c.args.words.now _ _ _ _ c.place_fits.ensures _ c.in_err-sized.ensures tt)
 
 pub returns : goal.returns
-returns c = place_checks _ _ _ _ _ _ _ c.place_fits.ensures _ c.sized-size.ensures _
-    (told_accepted c.sized-size.result _ c.is_refused.ensures c.if-is_refused.false) c.check.ensures
+returns c = place_checks _ _ _ _ _ _ _ c.place_fits.ensures _ c.sized.ensures _ (ap answer_of c.in_ok-sized.was) c.check.ensures

@@ -1,27 +1,31 @@
--- With N and K as the code reads them.
-use Prim.Native.Nat.{ℕ}
-use mathlib.Core.Path.{subst, ◌∙◌}
+-- The rows of the step are those of the lists.
 use native.Mathlib.Omega.{arith}
-use Rattle.lengths.proofs.Sizes.{width_told}
-use Rattle.convert.proofs.Answers.{ready_as, ready_by, judged_by}
-use Rattle.search.specs.Places.{PlaceAt}
+use Rattle.lists.proofs.Rows.{node_in_lem}
+use Rattle.convert_rows.proofs.Steps.{jam_of}
+use Rattle.search.proofs.Places.{place_rows, place_told, place_same}
 use Rattle.search.proofs.inner.place_of.Goals as goal
 
-pub record_width-width-requires : goal.record_width-width-requires
-record_width-width-requires c = let r = c.requires.ready in
-    (omega (arith, c.links_of-links.ensures, r.corridor_fits.few), omega (arith, c.steps_of-steps.ensures, r.demands_fit.short))
+pub junction-requires-clause-row_fits : goal.junction-requires-clause-row_fits
+junction-requires-clause-row_fits c =
+    let own = c.proposed-proposal.result in
+    let is = c.proposed-proposal.ensures in
+    let rows = place_rows _ _ _ _ _ _ own.ready (rw (is.told.2, is.lent.0, is.lent.1, is.lent.2) c.requires.accepted) _ _ _ _ _ _ own.same.0 own.same.1
+    c.row-row.ensures.width (omega (arith, is.told.1, c.requires.step_bound.0)) c.step.ensures.row c.row-row.ensures.row in
+    (rows.row_fits, jam_of _ _ _ _ _ rows)
 
-pub place_at-requires : goal.place_at-requires
-place_at-requires c =
-    let s = c.steps_of-steps.ensures in
-    let n = c.links_of-links.ensures in
-    let words = c.args.words.now in
-    record {
-      ready = ready_as _ _ _ words _ _ (ready_by _ _ words _ _ _ n s c.record_width-width.ensures.0 c.requires.ready) n s;
-      accepted = judged_by _ _ words _ _ _ n s c.record_width-width.ensures.0 ∙ c.requires.accepted;
-      step_lt_steps = (omega (arith, c.requires.step_bound.0), omega (arith, c.requires.step_bound.1));
-    }
+pub flows-requires : goal.flows-requires
+flows-requires c =
+    let own = c.proposed-proposal.result in
+    let is = c.proposed-proposal.ensures in
+    let rows = place_rows _ _ _ _ _ _ own.ready (rw (is.told.2, is.lent.0, is.lent.1, is.lent.2) c.requires.accepted) _ _ _ _ _ _ own.same.0 own.same.1
+    c.row-row.ensures.width (omega (arith, is.told.1, c.requires.step_bound.0)) c.step.ensures.row c.row-row.ensures.row in
+    node_in_lem _ own.corridor.links c.args.node _ rows.row_fits (omega (arith, is.told.0, c.requires.step_bound.1))
 
 pub returns : goal.returns
-returns c = subst (λ (x : ℕ). PlaceAt x c.args.corridor.now c.args.demands.now c.args.words.now c.args.step c.args.node c.place_at.result)
-    (width_told _ _ _ _ _ _ c.links_of-links.ensures c.steps_of-steps.ensures c.record_width-width.ensures.0) c.place_at.ensures
+returns c =
+    let own = c.proposed-proposal.result in
+    let is = c.proposed-proposal.ensures in
+    place_same _ _ _ _ _ _ _ _ _ _ _ is.told.2 is.lent.0 is.lent.1 is.lent.2
+    (place_told _ _ _ _ _ _ own.ready (rw (is.told.2, is.lent.0, is.lent.1, is.lent.2) c.requires.accepted) _ _ _ _ _ _ own.same.0 own.same.1
+    c.row-row.ensures.width (omega (arith, is.told.1, c.requires.step_bound.0)) c.step.ensures.row c.row-row.ensures.row _ _ c.step.ensures.downstream
+    (omega (arith, is.told.0, c.requires.step_bound.1)) _ _ c.junction.ensures c.flows.ensures)

@@ -1,10 +1,6 @@
-use mathlib.Core.Path.{sym}
 use native.Mathlib.Omega.{arith}
 use Rattle.simulate_rows.proofs.Steps.{moving_begun, moving_asks, moving_more, moving_ended}
 use Rattle.simulate_rows.proofs.inner.move_row.Goals as goal
-
-pub overflow_add-nodes : goal.overflow_add-nodes
-overflow_add-nodes c = omega (arith, c.requires.0.few)
 
 pub loop-i-init : goal.loop-i-init
 loop-i-init c = moving_begun _ _ _ _ _ _ c.requires.0.state_fits c.requires.1
@@ -14,21 +10,8 @@ move_node-moved-requires c =
     let all = moving_asks _ _ _ _ _ _ _ _ _ _ _ c.loop-i.invariant c.requires.0 (omega arith) c.requires.2 in
     record { node_in = all.0; move_kept = all.1 }
 
-pub overflow_add-total : goal.overflow_add-total
-overflow_add-total c = let s = c.loop-i.invariant.summed in
-    omega (arith, s.low, s.bound, c.move_node-moved.ensures.low, c.requires.0.few)
-
-pub overflow_add-i : goal.overflow_add-i
-overflow_add-i c = omega (arith, c.requires.0.few)
-
 pub loop-i-preserved : goal.loop-i-preserved
 loop-i-preserved c = moving_more _ _ _ _ _ _ _ _ _ _ _ c.loop-i.invariant _ _ _ _ c.requires.2 (omega arith) c.move_node-moved.ensures
-
-pub shape_of-state : goal.shape_of-state
-shape_of-state c = sym c.loop-i.invariant.states.is.same
-
-pub shape_of-row : goal.shape_of-row
-shape_of-row c = sym c.loop-i.invariant.rows.is.same
 
 pub returns : goal.returns
 returns c = moving_ended _ _ _ _ _ _ _ _ _ _ _ c.loop-i.invariant (omega arith) c.requires.0.few

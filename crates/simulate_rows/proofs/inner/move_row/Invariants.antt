@@ -1,10 +1,6 @@
 -- The first i nodes have moved, and what link i gains and the sum so far are at hand.
-use Prim.Native.Nat.{◌+◌, ◌-◌}
 use Rattle.simulate_rows.proofs.Steps.{Moving}
 use Rattle.simulate_rows.proofs.inner.move_row.Given as goal
 
 abbrev pub invariant-loop-i : goal.invariant-loop-i
-invariant-loop-i l = Moving l.width l.i l.links l.demand l.flows l.initial.state l.state l.initial.row l.row l.gained.0 l.total
-
-abbrev pub decreases-loop-i : goal.decreases-loop-i
-decreases-loop-i l = l.links + 1 - l.i
+invariant-loop-i l = Moving l.width l.i l.links l.demand.row.now l.flows l.initial.state l.state l.initial.row l.row l.gained.0 l.total

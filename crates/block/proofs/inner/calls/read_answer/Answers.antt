@@ -1,21 +1,21 @@
 -- Each test picks its case of `read_answer`.
-use Rattle.tables.proofs.Answers.{told_refused, told_accepted}
-use Rattle.block.proofs.Calls.{told_sized, read_told_wrong, read_room_wrong, read_file}
+use mathlib.Core.Path.{refl}
+use Rattle.std.proofs.lemmas.Result.{err_from_is_err_and}
+use Rattle.block.proofs.Calls.{read_told_wrong, read_room_wrong, read_file}
 use Rattle.block.proofs.inner.calls.read_answer.Goals as goal
 
-pub returns-then-is_refused : goal.returns-then-is_refused
-returns-then-is_refused c = search (read_told_wrong, told_refused)
+pub returns-in_err-told : goal.returns-in_err-told
+returns-in_err-told c =
+    let p = err_from_is_err_and c.from_residual.result c.from_residual.ensures.1 in
+    rw (p.1, p.2) (read_told_wrong _ _ _ _ _ _ c.in_err-told.ensures.answered tt)
 
-pub length_of-requires : goal.length_of-requires
-length_of-requires c = search (told_sized, told_accepted)
-
-pub returns-then-is_refused-2 : goal.returns-then-is_refused-2
-returns-then-is_refused-2 c =
-    let r = told_refused c.sized-size.result _ c.is_refused-2.ensures c.if-is_refused-2.true in
-    search (read_room_wrong, told_accepted)
-
-pub file_answer-requires : goal.file_answer-requires
-file_answer-requires c = search (told_sized, told_accepted)
+pub returns-in_err-sized : goal.returns-in_err-sized
+returns-in_err-sized c =
+    let p = err_from_is_err_and c.from_residual-in_err-sized.result c.from_residual-in_err-sized.ensures.1 in
+    let e = c.in_ok-told.ensures.ok in
+    rw (p.1, p.2, ← e.0, ← e.1) (read_room_wrong _ _ _ _ _ c.in_ok-told.told.told _ c.length_of.ensures.0 _ c.in_err-sized.ensures tt)
 
 pub returns : goal.returns
-returns c = search (read_file, told_accepted)
+returns c =
+    let e = c.in_ok-told.ensures.ok in
+    rw (← e.0, ← e.1) (read_file _ _ _ _ _ c.in_ok-told.told.told _ c.length_of.ensures.0 _ c.in_ok-sized.ensures refl _ c.file_answer.ensures)

@@ -1,16 +1,15 @@
 -- Each test picks its case of `write_answer`.
-use Rattle.tables.proofs.Answers.{told_refused, told_accepted}
-use Rattle.block.proofs.Calls.{told_sized, write_told_wrong, write_room_wrong, write_told}
+use mathlib.Core.Path.{refl}
+use Rattle.std.proofs.lemmas.Result.{err_from_is_err_and}
+use Rattle.block.proofs.Calls.{write_room_wrong, write_told}
 use Rattle.block.proofs.inner.calls.write_answer.Goals as goal
 
-pub returns-then-is_refused : goal.returns-then-is_refused
-returns-then-is_refused c = search (write_told_wrong, told_refused)
-
-pub length_of-m-requires : goal.length_of-m-requires
-length_of-m-requires c = search (told_sized, told_accepted)
-
-pub returns-then-is_refused-2 : goal.returns-then-is_refused-2
-returns-then-is_refused-2 c = search (write_room_wrong, told_refused, told_accepted)
+pub returns-in_err-sized : goal.returns-in_err-sized
+returns-in_err-sized c =
+    let p = err_from_is_err_and c.from_residual.result c.from_residual.ensures.1 in
+    rw (p.1, p.2) (write_room_wrong _ _ _ _ _ c.args.size.told _ c.length_of-m.ensures.0 _ c.blocks_for.ensures _ c.in_err-sized.ensures tt)
 
 pub returns : goal.returns
-returns c = search (write_told, told_accepted)
+returns c =
+    write_told _ _ _ _ _ c.args.size.told _ c.length_of-m.ensures.0 _ c.blocks_for.ensures _ c.in_ok-sized.ensures refl
+    _ c.list_fits.ensures _ c.sized-2.ensures

@@ -12,4 +12,4 @@ unfolding list_kind
 returns c = let a = c.args in
     c.choose.ensures
     ∙ ap (λ (m : ℕ). cond (eqb a.count m) (later a.kind) a.kind)
-    (c.length_of.ensures.0 ∙ ap (λ (x : Kind). list_length x a.n a.k) c.later.ensures)
+    (c.length_of.ensures.0 ∙ ap (λ (x : Kind). list_length x a.size.links a.size.steps) c.later.ensures)

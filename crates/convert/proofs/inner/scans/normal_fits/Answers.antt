@@ -1,17 +1,9 @@
--- Both tests decide.
+-- N and K are small.
 use mathlib.Core.Path.{sym, ◌∙◌}
-use Rattle.tables.proofs.Sets.{all}
-use Rattle.convert.proofs.Normal.{first_fails, first_holds}
+use Rattle.lengths.proofs.Sizes.{demands_fit_lem}
 use Rattle.convert.proofs.inner.scans.normal_fits.Goals as goal
 
-pub sizes-requires : goal.sizes-requires
-sizes-requires c = search all
-
-pub plan_fits-requires : goal.plan_fits-requires
-plan_fits-requires c = sym c.sizes.ensures ∙ c.if-sizes.true
-
-pub returns-then-sizes : goal.returns-then-sizes
-returns-then-sizes c = first_holds _ _ _ _ c.sizes.ensures c.if-sizes.true c.plan_fits.ensures
-
-pub returns : goal.returns
-returns c = first_fails _ _ _ c.sizes.ensures c.if-sizes.false
+pub plan_length-requires : goal.plan_length-requires
+plan_length-requires c =
+    let fit = demands_fit_lem _ _ _ _ (sym c.sizes.ensures ∙ c.if-sizes.true) c.links_of.ensures c.steps_of.ensures in
+    (fit.few, fit.short)

@@ -4,6 +4,6 @@ use Rattle.convert_rows.proofs.Steps.{fixed_number_is}
 use Rattle.convert_rows.proofs.inner.rows.fixed_answer.Goals as goal
 
 pub returns : goal.returns
-returns c = refusal_told _ _ _ _ _ c.refusal.ensures
-    (fixed_number_is _ _ _ _ _ _ _ _ _ _ _ _ c.fixed_fault-number.ensures c.start_at-start.ensures c.state_at-state.ensures
-    c.flows_at-flows.ensures c.exit_at-said.ensures)
+returns c =
+    refusal_told _ _ _ _ _ c.placed.ensures
+    (fixed_number_is _ _ _ _ _ _ _ _ _ _ _ _ c.fixed_fault-fault.ensures c.start.ensures c.state.ensures c.flows.ensures c.exit.ensures)

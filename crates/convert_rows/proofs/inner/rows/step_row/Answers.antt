@@ -2,12 +2,6 @@
 use Rattle.convert_rows.proofs.Quick.{quick_accepts}
 use Rattle.convert_rows.proofs.inner.rows.step_row.Goals as goal
 
-pub returns-then-moves : goal.returns-then-moves
-returns-then-moves c =
-    let moves = c.step_moves-moves.ensures.moves_kept c.if-moves.true in
-    record {
-      found =
-          quick_accepts _ _ _ _ _ _ _ _ c.requires.row_fits.2 c.requires.rows_kept.corridor_fits.first
-          (c.step_moves-moves.ensures.flows_kept c.if-moves.true) _ moves c.args.k;
-      adds = (moves.adds, moves.low);
-    }
+pub returns-in-Some-clause-found : goal.returns-in-Some-clause-found
+returns-in-Some-clause-found c =
+    quick_accepts _ _ _ _ _ _ _ _ c.requires.row_fits.2 c.requires.rows_kept.corridor_fits.first c.in-Some.ensures.0 _ c.in-Some.ensures.1 c.args.k

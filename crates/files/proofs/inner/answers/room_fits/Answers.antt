@@ -1,13 +1,11 @@
--- N and K decide, then the length.
-use Rattle.block.proofs.Calls.{told_is}
-use Rattle.files.proofs.Answers.{room_wrong, room_right}
+-- The length is a plan's.
+use Prim.Native.Nat.{ℕ, ◌*◌}
+use mathlib.Core.Path.{ap, ◌∙◌}
+use lib.Dec.{eqb}
+use Rattle.payload.specs.File.{blocks_for}
+use Rattle.block.specs.Kinds.{list_length}
 use Rattle.files.proofs.inner.answers.room_fits.Goals as goal
 
-pub length_of-m-requires : goal.length_of-m-requires
-length_of-m-requires c = search told_is
-
-pub returns-then-told_fits : goal.returns-then-told_fits
-returns-then-told_fits c = search room_right
-
 pub returns : goal.returns
-returns c = search room_wrong
+unfolding list_length
+returns c = ap (λ (x : ℕ). eqb c.args.room (x * 512)) (c.blocks_for.ensures ∙ ap (λ (x : ℕ). blocks_for x) c.length_of.ensures.0)

@@ -1,18 +1,16 @@
--- The room is long enough for the corridor's words.
+-- Every row stands in the file, and the blocks are sealed.
 use native.Mathlib.Omega.{arith}
-use lib.ListN.{length-take}
+use Rattle.files.proofs.Plans.{seal_fits, plan_sealed}
 use Rattle.files.proofs.inner.plans.write_plan.Goals as goal
 
-pub corridor_count-count-requires : goal.corridor_count-count-requires
-corridor_count-count-requires c = c.requires.files_fit.told.links_high
+pub seal-requires : goal.seal-requires
+seal-requires c =
+    let is = c.proposal-proposal.ensures in
+    let count = c.length_of-count.ensures in
+    (seal_fits _ _ _ _ _ _ is.told.0 is.told.1 c.put_steps.ensures.holds count.0, omega (arith, count.2))
 
-pub slice_bounds-list-end : goal.slice_bounds-list-end
-slice_bounds-list-end c = simp length-take (omega arith)
-
-pub fill_plan-requires : goal.fill_plan-requires
-fill_plan-requires c =
-    record {
-      files_fit = c.requires.files_fit;
-      accepts = c.requires.accepts;
-      list_len = (simp length-take (omega (arith, c.corridor_count-count.ensures)), c.requires.holds);
-    }
+pub returns : goal.returns
+returns c =
+    let is = c.proposal-proposal.ensures in
+    plan_sealed _ _ _ _ _ c.args.read.fit _ _ _ _ c.number_of.ensures c.length_of-count.ensures.0
+    (rw (is.told.0, is.told.1, is.width, is.corridor, is.demands, is.record) at c.put_steps.ensures.put) c.seal.ensures

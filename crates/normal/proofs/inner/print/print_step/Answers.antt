@@ -6,18 +6,6 @@ use Rattle.normal.proofs.inner.print.print_step.Goals as goal
 pub loop-i-init : goal.loop-i-init
 loop-i-init c = search all
 
-pub print_node-line-requires : goal.print_node-line-requires
-print_node-line-requires c = record { accepted = c.requires.accepted; k_bound = (c.requires.k_bound.0, omega (arith, c.requires.k_bound.1)) }
-
-pub overflow_add-bytes : goal.overflow_add-bytes
-overflow_add-bytes c = search all
-
-pub overflow_add-i : goal.overflow_add-i
-overflow_add-i c = search all
-
-pub loop-i-smaller : goal.loop-i-smaller
-loop-i-smaller c = search all
-
 pub loop-i-preserved : goal.loop-i-preserved
 loop-i-preserved c = (search all, λ t. c.print_node-line.ensures.0.told (c.loop-i.invariant.1 t))
 

@@ -1,5 +1,4 @@
 -- The bytes so far, at most 128 for a node; and a failure told before the loop is told.
-use Prim.Native.Nat.{◌-◌}
 use mathlib.Core.Bool.{true}
 use mathlib.Core.Path.{◌≡◌}
 use lib.ListN.{length}
@@ -9,6 +8,3 @@ use Rattle.normal.proofs.inner.print.print_step.Given as goal
 
 abbrev pub invariant-loop-i : goal.invariant-loop-i
 invariant-loop-i l = Summed l.i l.nodes 128 (λ j. length (plan_line l.input l.k j)) l.bytes × (l.initial.failed ≡ true → l.failed ≡ true)
-
-abbrev pub decreases-loop-i : goal.decreases-loop-i
-decreases-loop-i l = l.nodes - l.i

@@ -1,5 +1,4 @@
 -- The bytes so far, at most 8,320 for a step; and a failure told before the loop is told.
-use Prim.Native.Nat.{◌-◌}
 use mathlib.Core.Bool.{true}
 use mathlib.Core.Path.{◌≡◌}
 use lib.ListN.{length}
@@ -9,6 +8,3 @@ use Rattle.normal.proofs.inner.print.print_steps.Given as goal
 
 abbrev pub invariant-loop-k : goal.invariant-loop-k
 invariant-loop-k l = Summed l.k l.steps 8320 (λ j. length (step_text l.input j)) l.bytes × (l.initial.failed ≡ true → l.failed ≡ true)
-
-abbrev pub decreases-loop-k : goal.decreases-loop-k
-decreases-loop-k l = l.steps - l.k

@@ -1,7 +1,5 @@
 -- The bytes read so far are within the room, which stays as long as it was.
-use Prim.Native.Nat.{◌-◌, ◌≤◌}
-use mathlib.Core.Path.{◌≡◌}
-use lib.ListN.{length}
+use Rattle.std.proofs.Common.{◌≡◌, ◌-◌, ◌≤◌, length}
 use Rattle.normal.proofs.inner.receive.receive.Given as goal
 
 abbrev pub invariant-loop-done : goal.invariant-loop-done

@@ -1,3 +1,4 @@
+use borrow.Author.Rules.{rules}
 use native.Mathlib.Omega.{arith}
 use lib.ListN.{length-take, length-drop}
 use Rattle.payload.proofs.Payloads.{put_begun, put_runs, put_ended}
@@ -17,4 +18,4 @@ loop-i-preserved c = let n = c.run_of.ensures in
     put_runs _ _ _ _ _ _ _ l (omega (arith, n.1, l.bound)) c.put_run.ensures
 
 pub returns : goal.returns
-returns c = (search put_ended, λ i. omega (arith, c.shared_slice_known-1.given i))
+returns c = (search put_ended, λ i. search rules)

@@ -1,9 +1,7 @@
--- The file starts what is left of the input from its first byte on.
-use Rattle.printed.proofs.Input.{rest_kind, past_kind}
+-- Where nothing is left past a byte, the oldest kind stays.
+use native.Mathlib.Omega.{arith}
+use Rattle.printed.proofs.Input.{past_kind}
 use Rattle.printed.proofs.inner.input.kind_at.Goals as goal
 
-pub returns-then-input-at : goal.returns-then-input-at
-returns-then-input-at c = search past_kind
-
-pub returns : goal.returns
-returns c = search rest_kind
+pub returns-in-None : goal.returns-in-None
+returns-in-None c = past_kind c.args.kind c.args.at c.args.input.now (grind (arith, c.in-None.ensures.lookup))

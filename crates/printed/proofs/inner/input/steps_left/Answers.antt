@@ -1,24 +1,41 @@
 -- The input's end decides, then K, then the rest.
-use Rattle.block.proofs.Calls.{told_is}
-use Rattle.printed.proofs.Input.{start, steps_short, kind_is_lem, steps_are, steps_bad, steps_good}
+use mathlib.Core.Path.{refl, ap, ◌∙◌}
+use Prim.Native.Nat.{ℕ}
+use Rattle.std.proofs.lemmas.Result.{err_from_is_err_and}
+use Rattle.tables.specs.Answer.{sized}
+use Rattle.tables.proofs.Answers.{or_else_stop, or_else_next}
+use Rattle.faults.specs.Lists.{within}
+use Rattle.printed.proofs.Input.{start, start_tested, steps_are, steps_told}
 use Rattle.printed.proofs.inner.input.steps_left.Goals as goal
 
-pub returns-then-input-block : goal.returns-then-input-block
-returns-then-input-block c = search steps_short
+pub returns-in_err-enough : goal.returns-in_err-enough
+returns-in_err-enough c =
+    let p = err_from_is_err_and c.from_residual.result c.from_residual.ensures.1 in
+    rw (p.1, p.2)
+    (or_else_stop _ _ _ (c.in_err-enough.ensures ∙ start_tested _ _ c.requires.links_value _ c.corridor_blocks-block.ensures.0) tt)
 
-pub files_left-requires : goal.files_left-requires
-files_left-requires c =
-    record {
-      told = (told_is _ _ _ c.told_fits.ensures c.if-told_fits.true, c.corridor_blocks-block.ensures.1);
-      n_value = (c.requires.n_value, steps_are _ _ c.requires.n_value _ c.corridor_blocks-block.ensures.0 _ c.word_at-k.ensures);
-      block_value = (
-        start _ _ c.requires.n_value _ c.corridor_blocks-block.ensures.0,
-        kind_is_lem _ _ c.requires.n_value _ c.corridor_blocks-block.ensures.0 _ c.kind_at-kind.ensures,
-      );
-    }
+pub returns-in_err-size : goal.returns-in_err-size
+returns-in_err-size c =
+    let p = err_from_is_err_and c.from_residual-in_err-size.result c.from_residual-in_err-size.ensures.1 in
+    let k = steps_are _ _ c.requires.links_value _ c.corridor_blocks-block.ensures.0 _ c.word_at-k.ensures in
+    rw (p.1, p.2)
+    (or_else_next _ _ _ _ (c.in_ok-enough.ensures ∙ start_tested _ _ c.requires.links_value _ c.corridor_blocks-block.ensures.0) refl
+    (or_else_stop _ _ _
+    (c.in_err-size.ensures.answered ∙ steps_told _ _ c.requires.told.0 c.requires.told.1 ∙ ap (λ (n : ℕ). sized (within 1 1440 n)) k) tt))
 
-pub returns-then-told_fits : goal.returns-then-told_fits
-returns-then-told_fits c = search steps_good
+pub files_left-requires-clause-block_value : goal.files_left-requires-clause-block_value
+files_left-requires-clause-block_value c =
+    (start _ _ c.requires.links_value _ c.corridor_blocks-block.ensures.0, c.corridor_blocks-block.ensures.1)
+
+pub files_left-requires-clause-size_value : goal.files_left-requires-clause-size_value
+files_left-requires-clause-size_value c =
+    let e = c.in_ok-size.ensures.ok in
+    (e.0 ∙ c.requires.links_value, e.1 ∙ steps_are _ _ c.requires.links_value _ c.corridor_blocks-block.ensures.0 _ c.word_at-k.ensures)
 
 pub returns : goal.returns
-returns c = search steps_bad
+returns c =
+    let k = steps_are _ _ c.requires.links_value _ c.corridor_blocks-block.ensures.0 _ c.word_at-k.ensures in
+    or_else_next _ _ _ _ (c.in_ok-enough.ensures ∙ start_tested _ _ c.requires.links_value _ c.corridor_blocks-block.ensures.0) refl
+    (or_else_next _ _ _ _
+    (c.in_ok-size.ensures.answered ∙ steps_told _ _ c.requires.told.0 c.requires.told.1 ∙ ap (λ (n : ℕ). sized (within 1 1440 n)) k) refl
+    c.files_left.ensures)

@@ -1,30 +1,24 @@
--- The record is lent as a part of the input, and its numbers are the input's.
-use Prim.Native.Nat.{◌≤◌}
-use native.Mathlib.Omega.{arith}
-use Rattle.lists.specs.Words.{record_length}
-use Rattle.file_rows.specs.Words.{file_width}
-use Rattle.file_rows.specs.Rows.{Holds}
-use Rattle.printed.specs.Text.{plan_word}
-use Rattle.printed.proofs.Input.{input_kept, in_order, lent}
-use Rattle.printed.proofs.Text.{head_told}
+-- The record is that of the input, and states its cost.
+use mathlib.Core.Path.{◌≡◌, ◌∙◌}
+use mathlib.Core.List.{[], ◌∷◌, ◌++◌}
+use Prim.Native.Nat.{◌+◌}
+use Rattle.road.specs.Run.{cost}
+use Rattle.printed.specs.Input.{links_in, steps_in, corridor_file, demands_file, record_file}
+use Rattle.printed.specs.Fits.{stated_cost}
+use Rattle.printed.specs.Text.{spaced, plan_word, input_road, input_trace, head_line}
+use Rattle.printed.proofs.Input.{input_kept, cost_stated}
 use Rattle.printed.proofs.inner.lines.head_line.Goals as goal
 
-pub stated_cost-total-requires : goal.stated_cost-total-requires
-stated_cost-total-requires c = let kept = input_kept _ c.requires.accepted in
-    lent _ kept _ c.layout_in-at.ensures (λ n k corridor demands recorded. (n ≤ 64) × (k ≤ 1440) × Holds (record_length (file_width recorded) n k) recorded)
-    (kept.told.links_high, kept.told.steps_high, kept.fit.record_holds)
-
-pub slice_bounds-stated_cost-count : goal.slice_bounds-stated_cost-count
-slice_bounds-stated_cost-count c = let o = in_order _ (input_kept _ c.requires.accepted) _ c.layout_in-at.ensures in omega arith
-
-pub slice_bounds-stated_cost-start : goal.slice_bounds-stated_cost-start
-slice_bounds-stated_cost-start c = let o = in_order _ (input_kept _ c.requires.accepted) _ c.layout_in-at.ensures in omega arith
-
 pub returns : goal.returns
-unfolding plan_word
+unfolding plan_word input_road input_trace head_line
 returns c =
-    let kept = input_kept _ c.requires.accepted in
-    record {
-      out_after = head_told _ kept _ c.layout_in-at.ensures _ _ c.stated_cost-total.ensures c.put_numbers.ensures.out_after;
-      prefix_len = c.put_numbers.ensures.prefix_len;
-    }
+    let input = c.args.input.now in
+    let kept = input_kept input c.requires in
+    let e = c.files_in-read.ensures in
+    let total : c.stated_cost.result ≡ cost (input_road input) (input_trace input) =
+    c.stated_cost.ensures
+    ∙ (λ z. stated_cost (e.size.0 z) (e.size.1 z) (e.recorded z))
+    ∙ cost_stated (links_in input) (steps_in input) (corridor_file input) (demands_file input) (record_file input) kept.fit kept.accepted in
+    let steps = c.from-steps.ensures ∙ e.size.1 in
+    let links = c.from-nodes.ensures ∙ e.size.0 in
+    c.numbers_line.ensures ∙ (λ z. plan_word ++ (spaced (steps z) ++ (spaced (links z + 1) ++ (spaced (total z) ++ (10 ∷ [])))))

@@ -1,11 +1,7 @@
 -- The four lanes of the first q * 4 words.
-use Prim.Native.Nat.{◌-◌}
 use Rattle.payload.specs.File.{word_in}
 use Rattle.seals.proofs.Lanes.{Lanes}
 use Rattle.seals.proofs.inner.reading.check_word.Given as goal
 
 abbrev pub invariant-loop-q : goal.invariant-loop-q
 invariant-loop-q l = Lanes l.q (word_in l.file l.t) l.a.sum l.a.twice l.b.sum l.b.twice l.c.sum l.c.twice l.d.sum l.d.twice
-
-abbrev pub decreases-loop-q : goal.decreases-loop-q
-decreases-loop-q l = 32 - l.q

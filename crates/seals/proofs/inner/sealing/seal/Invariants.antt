@@ -1,5 +1,4 @@
 -- A loop that seals a block at a time.
-use Prim.Native.Nat.{◌-◌}
 use Rattle.tables.proofs.Grid.{Rowed}
 use Rattle.payload.specs.File.{payload_of}
 use Rattle.seals.proofs.Blocks.{file_byte}
@@ -7,6 +6,3 @@ use Rattle.seals.proofs.inner.sealing.seal.Given as goal
 
 abbrev pub invariant-loop-t : goal.invariant-loop-t
 invariant-loop-t l = Rowed l.t l.blocks 512 (file_byte l.kind (payload_of l.m l.initial.file)) l.initial.file l.file
-
-abbrev pub decreases-loop-t : goal.decreases-loop-t
-decreases-loop-t l = l.blocks - l.t

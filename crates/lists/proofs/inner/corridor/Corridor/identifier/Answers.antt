@@ -1,0 +1,13 @@
+-- By the words that are read.
+use borrow.Author.Rules.{rules}
+use native.Mathlib.Omega.{arith}
+use Rattle.lists.specs.Words.{node_at}
+use Rattle.lists.proofs.Corridors.{nine_words}
+use Rattle.lists.proofs.inner.corridor.Corridor.identifier.Goals as goal
+
+pub word-requires : goal.word-requires
+word-requires c = (c.requires, nine_words _ _ _ (omega arith))
+
+pub returns : goal.returns
+unfolding node_at
+returns c = search rules

@@ -1,8 +1,0 @@
--- The word that opens the list.
-use borrow.Author.Rules.{rules}
-use Rattle.lists.specs.Words.{links_of}
-use Rattle.lists.proofs.inner.words.links_of.Goals as goal
-
-pub returns : goal.returns
-unfolding links_of
-returns c = search rules

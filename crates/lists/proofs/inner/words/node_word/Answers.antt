@@ -1,6 +1,0 @@
--- The words of node i begin where the kind tells.
-use Rattle.lists.proofs.Corridors.{word_read}
-use Rattle.lists.proofs.inner.words.node_word.Goals as goal
-
-pub returns : goal.returns
-returns c = search word_read

@@ -1,7 +1,0 @@
--- By the words that are read.
-use Rattle.lists.specs.Rows.{state_in}
-use Rattle.lists.proofs.inner.words.state_at.Goals as goal
-
-pub returns : goal.returns
-unfolding state_in
-returns c = simp (c.row_word.ensures, c.row_word-2.ensures)

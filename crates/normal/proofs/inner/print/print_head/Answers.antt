@@ -1,7 +1,0 @@
--- The buffer's part that is handed over is the line.
-use native.Mathlib.Omega.{arith}
-use Rattle.normal.proofs.Printed.{line_given}
-use Rattle.normal.proofs.inner.print.print_head.Goals as goal
-
-pub returns : goal.returns
-returns c = line_given _ 128 _ _ _ _ (c.head_line-n.ensures.out_after, c.head_line-n.ensures.prefix_len) (omega arith) c.hand_over.ensures

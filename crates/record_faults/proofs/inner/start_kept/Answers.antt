@@ -1,5 +1,0 @@
--- Where it is asked, the comparison answers.
-use Rattle.record_faults.proofs.inner.start_kept.Goals as goal
-
-pub returns-then-asked : goal.returns-then-asked
-returns-then-asked c = simp (c.if-asked.true, c.same_state.ensures)
