@@ -81,7 +81,7 @@ pub fn read_plan(n: u32, k: u32, file: &[u8], words: &mut [u32]) -> Answer
     ensures answered { answer_of result ≡ read_answer Plan n k file.now (length words.old) }
     ensures lent { words.new ≡ words_read Plan n k file.now words.old }
 {
-    calls::read_chosen(Kind::Plan, n, k, file, words)
+    calls::read_list(Kind::Plan, n, k, file, words)
 }
 
 // A plan into a file.
@@ -89,5 +89,5 @@ pub fn write_plan(n: u32, k: u32, words: &[u32], file: &mut [u8]) -> Answer
     ensures answered { answer_of result ≡ write_answer Plan n k words.now (length file.old) }
     ensures lent { file.new ≡ file_written Plan n k words.now file.old }
 {
-    calls::write_chosen(Kind::Plan, n, k, words, file)
+    calls::write_list(Kind::Plan, n, k, words, file)
 }

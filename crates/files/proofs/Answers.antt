@@ -137,19 +137,11 @@ module _ (n k : ℕ) (corridor demands recorded : List ℕ) (a : Answer) (q : a 
 abbrev pub room_fits : ℕ → ℕ → ℕ → Bool
 room_fits n k room = told_fits n k && eqb room (blocks_for (plan_length n k) * 512)
 
--- the first of two tests, where it fails, and the second, where the first holds
-pub first_fails : (n k room : ℕ) (a : Answer) → a ≡ sized (told_fits n k) → Refuses a → a ≡ sized (room_fits n k room)
-first_fails n k room a e r =
-    let no : told_fits n k ≡ false = sized_refuses (told_fits n k) (subst Refuses e r) in
-    e ∙ ap sized (no ∙ ap (λ (x : Bool). x && eqb room (blocks_for (plan_length n k) * 512)) (sym no))
-
-pub first_holds : (n k room l s : ℕ) (a b : Answer) → a ≡ sized (told_fits n k) → a ≡ Accepted → l ≡ n → s ≡ k
-    → b ≡ sized (eqb room (blocks_for (plan_length l s) * 512)) → b ≡ sized (room_fits n k room)
-first_holds n k room l s a b e h f g p =
-    let yes : told_fits n k ≡ true = (sized_iff (told_fits n k)).0 (sym e ∙ h) in
-    p
-    ∙ ap₂ (λ (x y : ℕ). sized (eqb room (blocks_for (plan_length x y) * 512))) f g
-    ∙ ap (λ (x : Bool). sized (x && eqb room (blocks_for (plan_length n k) * 512))) (sym yes)
+-- where both tests hold, that of N and K does: a is what it answered, z what both did
+pub told_by_room : (n k room : ℕ) (z a : Answer) → z ≡ sized (room_fits n k room) → z ≡ Accepted → a ≡ sized (told_fits n k) → Refuses a → ⊥
+told_by_room n k room z a e h q r =
+    let both = (and_iff (told_fits n k) (eqb room (blocks_for (plan_length n k) * 512))).0 ((sized_iff (room_fits n k room)).0 (sym e ∙ h)) in
+    subst Refuses (q ∙ (sized_iff (told_fits n k)).1 both.0) r
 
 -- z is what both tests answered
 module _ (n k : ℕ) (corridor demands recorded lent : List ℕ) (z : Answer) (q : z ≡ sized (room_fits n k (length lent))) where

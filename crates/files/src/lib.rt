@@ -37,8 +37,8 @@ pub fn convert_files(
     ensures answered { answer_of result ≡ convert_files n k corridor.now demands.now recorded.now (length plan.old) }
     ensures written { plan.new ≡ plan_written n k corridor.now demands.now recorded.now plan.old }
 {
+    sized(room_fits(n, k, plan.len()))?;
     let size = size::told(n, k)?;
-    sized(room_fits(size, plan.len()))?;
     let files = Files {
         corridor,
         demands,

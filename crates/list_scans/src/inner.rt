@@ -21,7 +21,7 @@ pub mod identifiers;
 pub mod most;
 
 // Refusal 3 at node i.
-fn ramp_test(corridor: Corridor<'_>, i: usize) -> Result<(), Fault>
+pub fn ramp_test(corridor: Corridor<'_>, i: usize) -> Result<(), Fault>
     requires { i ≤ corridor.links }
     ensures { fault_of result ≡ node_fault Ramp corridor.entry.words.now corridor.entry.links i 0 0 0 }
 {
@@ -35,7 +35,7 @@ fn ramp_test(corridor: Corridor<'_>, i: usize) -> Result<(), Fault>
 }
 
 // Refusal 4 at node i.
-fn start_test(corridor: Corridor<'_>, i: usize) -> Result<(), Fault>
+pub fn start_test(corridor: Corridor<'_>, i: usize) -> Result<(), Fault>
     requires { i ≤ corridor.links }
     ensures { fault_of result ≡ start_fault (node_at corridor.entry.words.now i) }
 {
@@ -43,7 +43,7 @@ fn start_test(corridor: Corridor<'_>, i: usize) -> Result<(), Fault>
 }
 
 // Refusal 5 at node i, in the demands of a step.
-fn demand_test(links: usize, demand: Demand<'_>, i: usize) -> Result<(), Fault>
+pub fn demand_test(links: usize, demand: Demand<'_>, i: usize) -> Result<(), Fault>
     requires { NodeIn 2 demand.row.now i }
     ensures { fault_of result
         ≡ node_fault_in DemandTest [] links demand.entry.row.now demand.entry.downstream.0 i }
@@ -58,7 +58,7 @@ fn demand_test(links: usize, demand: Demand<'_>, i: usize) -> Result<(), Fault>
 }
 
 // Refusal 6 at node i, in a row of the plan.
-fn plan_test(corridor: Corridor<'_>, row: &[u32], i: usize) -> Result<(), Fault>
+pub fn plan_test(corridor: Corridor<'_>, row: &[u32], i: usize) -> Result<(), Fault>
     requires { (i ≤ corridor.links) × NodeIn 2 row.now i }
     ensures { (downstream : ℕ) → fault_of result
         ≡ node_fault_in Plan corridor.entry.words.now corridor.entry.links row.now downstream i }
@@ -69,7 +69,7 @@ fn plan_test(corridor: Corridor<'_>, row: &[u32], i: usize) -> Result<(), Fault>
 }
 
 // The first node that a test refuses, in row k of a list or, with k = 0, in the corridor.
-fn scan_nodes<F: Fn(usize) -> Result<(), Fault>>(k: usize, links: usize, test: F) -> Answer
+pub fn scan_nodes<F: Fn(usize) -> Result<(), Fault>>(k: usize, links: usize, test: F) -> Answer
     requires small { (k ≤ 1440) × (links ≤ 64) }
     requires callable { (i : ℕ) → i ≤ links → F.pre test i }
     ensures { (fault : ℕ → ℕ) → ((i : ℕ) (r : _) → i ≤ links → F.post test i r → fault_of r ≡ fault i)

@@ -2,7 +2,7 @@
 use Prim.Native.Nat.{ℕ, ◌+◌, ◌-◌, ◌*◌, ◌/◌, ◌^◌, ◌≤◌, ◌<◌}
 use mathlib.Core.Path.{◌≡◌, sym, ap, ◌∙◌, subst⁻¹}
 use mathlib.Core.Logic.{⊎_elim}
-use native.Mathlib.Nat.{le_trans, le_of_lt, lt_of_le_of_lt, mul-le-mul_left, mul-le-mul_right, mul-lt-mul_of_pos_right, mul_comm, add-mul, add-sub_of_le, div-le_of_le-mul, le-div_iff_mul-le, div-mul-le_self}
+use native.Mathlib.Nat.{le_trans, le_of_lt, lt_of_le_of_lt, mul-le-mul_left, mul-le-mul_right, mul-lt-mul_of_pos_right, mul_comm, add-mul, add-sub_of_le, div-le_of_le-mul, le-div_iff_mul-le, div-lt_iff_lt-mul, div-mul-le_self, lt-div-mul-add}
 use native.Mathlib.Omega.{arith}
 use lib.Pow.{pow_pos, pow-add}
 use Rattle.std.specs.Int.{div_ceil}
@@ -35,11 +35,26 @@ product_grows x y b m h k = omega (arith, product_splits x y b h, mul-le-mul_lef
 
 -- the quotient of m by n rounded up: the smallest v with m ≤ n × v, where n is not 0
 abbrev pub ceiling : ℕ → ℕ → ℕ
-ceiling m n = div_ceil m n
+ceiling m n = (m + n - 1) / n
+
+pub ceiling_reaches : (m n : ℕ) → 0 < n → m ≤ n * ceiling m n
+ceiling_reaches m n p = rw (mul_comm n (ceiling m n)) (omega (arith, lt-div-mul-add {a = m + n - 1} p))
+
+pub ceiling_near : (m n : ℕ) → 0 < n → n * ceiling m n < m + n
+ceiling_near m n p = rw (mul_comm n (ceiling m n)) (omega (arith, div-mul-le_self (m + n - 1) n))
 
 pub ceiling_least : (m n v : ℕ) → 0 < n → m ≤ n * v → ceiling m n ≤ v
 ceiling_least m n v p h =
+    let k : ceiling m n < v + 1 = (div-lt_iff_lt-mul p).1 (omega (arith, add-mul v 1 n, mul_comm n v)) in
+    omega arith
+
+-- the library's quotient rounded up is the same, where n is not 0
+pub ceiling_is : (m n : ℕ) → 0 < n → div_ceil m n ≡ ceiling m n
+ceiling_is m n p =
+    let d = div_ceil_times m n p in
+    let low : ceiling m n ≤ div_ceil m n = ceiling_least m n (div_ceil m n) p (omega (arith, d.0, mul_comm n (div_ceil m n))) in
     ⊎_elim
-    (λ (k : v < ceiling m n). absurd (omega (arith, (div_ceil_times m n p).1, mul-le-mul_right n k, add-mul v 1 n, mul_comm n v)))
-    (λ (k : ceiling m n ≤ v). k)
-    (cases_lt v (ceiling m n))
+    (λ (k : ceiling m n < div_ceil m n).
+    absurd (omega (arith, d.1, ceiling_reaches m n p, mul-le-mul_right n k, add-mul (ceiling m n) 1 n, mul_comm n (ceiling m n))))
+    (λ (k : div_ceil m n ≤ ceiling m n). omega arith)
+    (cases_lt (ceiling m n) (div_ceil m n))

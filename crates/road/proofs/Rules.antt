@@ -1,15 +1,14 @@
 -- Laws of rules 1 to 6, grouped by rule.
 use Prim.Native.Nat.{ℕ, ◌+◌, ◌-◌, ◌*◌, ◌/◌, ◌≤◌, ◌<◌, min}
-use mathlib.Core.Path.{◌≡◌, refl, ap, ap₂, ◌∙◌}
+use mathlib.Core.Path.{◌≡◌, ap, ap₂, ◌∙◌}
 use mathlib.Core.Logic.{⊎_elim}
-use native.Mathlib.Nat.{le_trans, mul_comm, mul_right_comm, mul_assoc, mul-le-mul_left, mul-le-mul_right, mul-add, add-mul, mul-sub, div-mul-le_self, lt-div-mul-add, le-div_iff_mul-le, le_of_mul-le-mul_right, zero-mul, eq-zero-or-pos}
+use native.Mathlib.Nat.{le_trans, mul_comm, mul_right_comm, mul_assoc, mul-le-mul_left, mul-le-mul_right, mul-add, add-mul, mul-sub, div-mul-le_self, lt-div-mul-add, le-div_iff_mul-le, le_of_mul-le-mul_right, zero-mul, div-zero, eq-zero-or-pos}
 use native.Mathlib.Omega.{arith}
 use borrow.Author.Tests.{le-leb, lt-leb}
-use Rattle.std.proofs.lemmas.Grind.{div_ceil_times}
 use Rattle.tables.proofs.Numbers.{le_or_lt}
 use Rattle.road.specs.Corridor.{Link, Ramp, NodeState, Flows}
 use Rattle.road.specs.Step.{Junction, discharge, sending, exit, through, offer, receiving, passed, merge, flows_with, outflow}
-use Rattle.road.proofs.Quotients.{share_le, share_le_part, quotient_falls, product_splits, product_grows, ceiling, ceiling_least}
+use Rattle.road.proofs.Quotients.{share_le, share_le_part, quotient_falls, product_splits, product_grows, ceiling, ceiling_reaches, ceiling_near, ceiling_least}
 
 -- ---- values are equal by their numbers
 
@@ -79,12 +78,12 @@ some_limit_sends n f top h l =
     ⊎_elim
     (λ (z : n ≡ 0).
     let none : n * top ≡ 0 = ap (λ (m : ℕ). m * top) z ∙ zero-mul top in
-    let v : ceiling (f * 65536) n ≡ 0 = let e : f ≡ 0 = omega arith in rw (e, z) refl in
+    let v : ceiling (f * 65536) n ≡ 0 = ap (λ (m : ℕ). ceiling (f * 65536) m) z ∙ div-zero _ in
     let sent : n * ceiling (f * 65536) n ≡ 0 = ap (λ (m : ℕ). m * ceiling (f * 65536) n) z ∙ zero-mul (ceiling (f * 65536) n) in
     record { sends = omega arith; within = omega arith; least = λ other e. omega arith })
     (λ (p : 0 < n).
     record {
-      sends = omega (arith, div_ceil_times (f * 65536) n p, mul_comm n (ceiling (f * 65536) n));
+      sends = omega (arith, ceiling_reaches (f * 65536) n p, ceiling_near (f * 65536) n p);
       within = ceiling_least (f * 65536) n top p (omega arith);
       least = λ other e. ceiling_least (f * 65536) n other p (omega arith);
     })

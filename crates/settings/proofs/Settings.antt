@@ -1,20 +1,21 @@
 -- Laws of a node's setting: the node's share of demand 3.
 use Prim.Native.Nat.{ℕ, ◌*◌, ◌/◌, ◌≤◌, ◌<◌}
 use mathlib.Core.Bool.{Bool, true, false}
-use mathlib.Core.Path.{◌≡◌, refl, sym, ap, subst, ◌∙◌}
+use mathlib.Core.Path.{◌≡◌, refl, sym, ap, ap₂, subst, ◌∙◌}
 use mathlib.Core.Logic.{◌↔◌, inl, inr, ⊎_elim}
-use native.Mathlib.Nat.{le_trans}
+use native.Mathlib.Nat.{le_trans, eq-zero-or-pos}
 use native.Mathlib.Omega.{arith}
 use borrow.Author.Tests.{eq-eqb, eqb-true}
 use lib.Dec.{eqb}
 use Rattle.std.specs.Prelude.{Option, Some, None}
+use Rattle.std.specs.Int.{div_ceil}
 use Rattle.tables.proofs.Numbers.{le_or_lt}
 use Rattle.tables.proofs.Least.{least_is}
 use Rattle.road.specs.declared.Units.{Units}
 use Rattle.road.specs.Corridor.{Flows}
 use Rattle.road.specs.Step.{Junction, sending, flows_with}
 use Rattle.road.specs.Limits.{NoLink, JunctionLimits}
-use Rattle.road.proofs.Quotients.{share_le, ceiling}
+use Rattle.road.proofs.Quotients.{share_le, ceiling, ceiling_is}
 use Rattle.road.proofs.Rules.{SmallestLimit, some_limit_sends, sending_product, sending_capacity, sending_rises, sending_exact, offer_exact, merge_free, flows_sent, flows_offered, flows_metered, flows_fit_lem}
 use Rattle.settings.specs.declared.Setting.TheVariants.{Full}
 use Rattle.settings.specs.Rate.{rate_for}
@@ -37,6 +38,18 @@ held_ceiling n f h l =
     fails : (v : ℕ) (t : Bool) → eqb (n * v / 65536) f ≡ t → v < ceiling (f * 65536) n → eqb (n * v / 65536) f ≡ false
     fails v false e below = e
     fails v true e below = absurd (let b = (some_limit_sends n f 65536 h (omega arith)).least v (eqb-true _ _ e) in omega arith)
+
+-- as the code divides: the library rounds up, and where n is 0 so is f
+pub held_quotient : (vehicles flow : ℕ) → vehicles ≤ 65536 → flow ≤ vehicles → held_limit vehicles flow ≡ div_ceil (flow * 65536) vehicles
+held_quotient n f h l = ⊎_elim none some (eq-zero-or-pos n)
+  where
+    none : n ≡ 0 → held_limit n f ≡ div_ceil (f * 65536) n
+    none z =
+        let e : f ≡ 0 = omega arith in
+        held_ceiling n f h l ∙ ap₂ (λ (x y : ℕ). ceiling (x * 65536) y) e z ∙ sym (ap₂ (λ (x y : ℕ). div_ceil (x * 65536) y) e z)
+
+    some : 0 < n → held_limit n f ≡ div_ceil (f * 65536) n
+    some p = held_ceiling n f h l ∙ sym (ceiling_is (f * 65536) n p)
 
 pub held_smallest : (vehicles flow top : ℕ) → vehicles ≤ 65536 → top ≤ 65536 → flow ≤ vehicles * top / 65536 → SmallestLimit vehicles flow top (held_limit vehicles flow)
 held_smallest n f top h t l =

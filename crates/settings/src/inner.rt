@@ -137,7 +137,7 @@ pub fn search(junction: Junction, wanted: Flows) -> Search
 }
 
 // The smallest limit at which the vehicles send the flow.
-#[tactic(auto, using(crate::proofs::Settings::held_ceiling))]
+#[tactic(auto, using(crate::proofs::Settings::held_quotient))]
 pub fn held_limit(vehicles: Units, flow: Units) -> Speed
     requires vehicles_bound { vehicles.0 ≤ 65536 }
     requires flow_le_vehicles { flow.0 ≤ vehicles.0 }

@@ -1,13 +1,19 @@
 -- Laws of answers: of `or_else`, of a `refusal` by its number, of `unless`, of `sized`, and of what is `left` of a lent list.
-use mathlib.Core.Bool.{Bool, true, false, true≢false}
+use mathlib.Core.Bool.{Bool, true, false, true≢false, cond}
 use mathlib.Core.List.{List}
 use mathlib.Core.Logic.{◌↔◌, ◌≢◌}
 use mathlib.Core.Path.{◌≡◌, refl, sym, ap, ◌∙◌, subst}
 use Prim.Native.Nat.{ℕ, zero, suc, ◌≤◌}
 use native.Mathlib.Omega.{arith}
+use lib.Dec.{eqb}
+use Rattle.std.specs.Prelude.{Result, Ok, Err}
+use Rattle.tables.specs.declared.Refusal.{Refusal}
+use Rattle.tables.specs.declared.Fault.{Fault}
+use Rattle.tables.specs.declared.Fault.TheVariants.{Size, Link, Ramp, Start, Demand, Plan, Fixed, Sending, Receiving, Offer, Moved, Queue, Cost}
+use Rattle.tables.specs.declared.Fault.TheVariants.{Bytes, Check, Kind, Number, Padding}
 use Rattle.tables.specs.Answer.{Answer}
 use Rattle.tables.specs.Answer.{Accepted, Refused}
-use Rattle.tables.specs.Answer.{is_refused, or_else, refusal, unless, sized, left, Small, TakenApart}
+use Rattle.tables.specs.Answer.{fault_number, answer_of, number_of, row_of, node_of, is_refused, or_else, refusal, unless, sized, left, Small, TakenApart}
 
 abbrev pub Refuses : Answer → Type 0
 Refuses Accepted = ⊥
@@ -28,6 +34,63 @@ told_accepted (Refused number row node) t e h = let z : ◌≡◌ {A = ℕ} 0 1 
 
 pub accepted_not_refused : (number row node : ℕ) → Accepted ≡ Refused number row node → ⊥
 accepted_not_refused number row node e = subst Refuses (sym e) tt
+
+-- ---- a result is what its answer says: no two faults have one number, and no two results one answer
+
+-- the fault of a number
+abbrev fault_at : ℕ → Fault
+fault_at x =
+    cond (eqb x 1) Size
+    (cond (eqb x 2) Link
+    (cond (eqb x 3) Ramp
+    (cond (eqb x 4) Start
+    (cond (eqb x 5) Demand
+    (cond (eqb x 6) Plan
+    (cond (eqb x 7) Fixed
+    (cond (eqb x 8) Sending
+    (cond (eqb x 9) Receiving
+    (cond (eqb x 10) Offer
+    (cond (eqb x 11) Moved
+    (cond (eqb x 12) Queue
+    (cond (eqb x 13) Cost
+    (cond (eqb x 14) Bytes
+    (cond (eqb x 15) Check
+    (cond (eqb x 16) Kind
+    (cond (eqb x 17) Number
+    Padding))))))))))))))))
+
+fault_told : (fault : Fault) → fault_at (fault_number fault) ≡ fault
+fault_told Size = refl
+fault_told Link = refl
+fault_told Ramp = refl
+fault_told Start = refl
+fault_told Demand = refl
+fault_told Plan = refl
+fault_told Fixed = refl
+fault_told Sending = refl
+fault_told Receiving = refl
+fault_told Offer = refl
+fault_told Moved = refl
+fault_told Queue = refl
+fault_told Cost = refl
+fault_told Bytes = refl
+fault_told Check = refl
+fault_told Kind = refl
+fault_told Number = refl
+fault_told Padding = refl
+
+pub faults_differ : (a b : Fault) → fault_number a ≡ fault_number b → a ≡ b
+faults_differ a b e = sym (fault_told a) ∙ ap fault_at e ∙ fault_told b
+
+pub answers_differ : (a b : Result (Unit {0}) Refusal) → answer_of a ≡ answer_of b → a ≡ b
+answers_differ (Ok x) (Ok y) e = refl
+answers_differ (Ok x) (Err s) e = absurd (accepted_not_refused (fault_number s.fault) s.row s.node e)
+answers_differ (Err r) (Ok y) e = absurd (accepted_not_refused (fault_number r.fault) r.row r.node (sym e))
+answers_differ (Err r) (Err s) e =
+    let p : fault_number r.fault ≡ fault_number s.fault = ap number_of e in
+    let row : r.row ≡ s.row = ap row_of e in
+    let node : r.node ≡ s.node = ap node_of e in
+    ap (λ (z : Refusal). Err z) (λ i. record { fault = faults_differ r.fault s.fault p i; row = row i; node = node i })
 
 -- ---- one answer, then another
 

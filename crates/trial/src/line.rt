@@ -63,7 +63,7 @@ pub fn told_change(told: &[u8], letter: u8, next: usize) -> Option<NewWord> {
     }
     Some(NewWord {
         at: number as usize,
-        to: self::number(after(rest, find(rest, b'='))),
+        to: self::number(after(told, find(told, b'='))),
     })
 }
 

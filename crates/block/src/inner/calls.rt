@@ -30,7 +30,7 @@ fn read_answer(kind: Kind, n: u32, k: u32, file: &[u8], room: usize) -> Answer
 }
 
 // A file's words, or a refusal that leaves the list as lent.
-fn read_list(kind: Kind, n: u32, k: u32, file: &[u8], words: &mut [u32]) -> Answer
+pub fn read_list(kind: Kind, n: u32, k: u32, file: &[u8], words: &mut [u32]) -> Answer
     ensures answered { answer_of result ≡ read_answer kind n k file.now (length words.old) }
     ensures lent { words.new ≡ words_read kind n k file.now words.old }
 {
@@ -47,21 +47,22 @@ fn list_fits(kind: Kind, size: Size, words: &[u32], m: usize) -> bool
     words.len() == m && kinds::own_agrees(kind, size.links, size.steps, words[0])
 }
 
-// All that a writer refuses where N and K are good, with `room` bytes lent.
-fn write_answer(kind: Kind, size: Size, words: &[u32], room: usize) -> Answer
-    ensures { answer_of result ≡ write_answer kind size.links size.steps words.now room }
+// All that a writer refuses, with `room` bytes lent.
+fn write_answer(kind: Kind, n: u32, k: u32, words: &[u32], room: usize) -> Answer
+    ensures { answer_of result ≡ write_answer kind n k words.now room }
 {
-    let m = kinds::length_of(kind, size);
+    let told = size::told(n, k)?;
+    let m = kinds::length_of(kind, told);
     sized(room == reading::blocks_for(m) * 512)?;
-    sized(list_fits(kind, size, words, m))
+    sized(list_fits(kind, told, words, m))
 }
 
 // A list's file, or a refusal that leaves the file as lent.
-fn write_list(kind: Kind, size: Size, words: &[u32], file: &mut [u8]) -> Answer
-    ensures answered { answer_of result ≡ write_answer kind size.links size.steps words.now (length file.old) }
-    ensures lent { file.new ≡ file_written kind size.links size.steps words.now file.old }
+pub fn write_list(kind: Kind, n: u32, k: u32, words: &[u32], file: &mut [u8]) -> Answer
+    ensures answered { answer_of result ≡ write_answer kind n k words.now (length file.old) }
+    ensures lent { file.new ≡ file_written kind n k words.now file.old }
 {
-    write_answer(kind, size, words, file.len())?;
+    write_answer(kind, n, k, words, file.len())?;
     sealing::write(kinds::number_of(kind), words, file);
     Ok(())
 }
@@ -81,5 +82,5 @@ pub fn write_chosen(kind: Kind, n: u32, k: u32, words: &[u32], file: &mut [u8]) 
     ensures lent { file.new ≡ file_written (list_kind kind n k (length words.now)) n k words.now file.old }
 {
     let told = size::told(n, k)?;
-    write_list(kinds::list_kind(kind, told, words.len()), told, words, file)
+    write_list(kinds::list_kind(kind, told, words.len()), n, k, words, file)
 }

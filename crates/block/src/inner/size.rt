@@ -17,7 +17,7 @@ pub struct Size {
 
 // Whether N and K as told are good.
 #[tactic(auto, unfolding(crate::specs::Calls::told_fits))]
-fn told_fits(n: u32, k: u32) -> bool
+pub fn told_fits(n: u32, k: u32) -> bool
     ensures { result ≡ told_fits n k }
 {
     (1..=64).contains(&n) && (1..=1440).contains(&k)

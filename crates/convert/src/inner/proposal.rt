@@ -70,26 +70,26 @@ fn scan_cost(words: &[u32], total: u64) -> Answer
     )
 }
 
+// The first node of state k with refusal 7.
+fn fixed_at(corridor: Corridor<'_>, recorded: Record<'_>, k: usize) -> Answer
+    requires { (recorded.links ≡ corridor.links) × (k ≤ recorded.steps) }
+    ensures { answer_of result
+        ≡ fixed_row_refusal recorded.entry.width corridor.entry.words.now corridor.entry.links recorded.entry.steps
+        recorded.entry.words.now k }
+{
+    rows::fixed_row(corridor, recorded.steps, k, recorded.row(k))
+}
+
+// The first state and node with refusal 7, whatever the words are.
+pub fn scan_fixed(corridor: Corridor<'_>, recorded: Record<'_>) -> Answer
+    requires { recorded.links ≡ corridor.links }
+    ensures { answer_of result
+        ≡ fixed_refusal recorded.entry.width corridor.entry.words.now corridor.entry.links recorded.entry.steps recorded.entry.words.now }
+{
+    first(recorded.steps + 1, |k| fixed_at(corridor, recorded, k))
+}
+
 impl Proposal<'_> {
-    // The first node of state k with refusal 7.
-    fn fixed_at(self, k: usize) -> Answer
-        requires { k ≤ self.demands.steps }
-        ensures { answer_of result
-            ≡ fixed_row_refusal self.entry.record.width self.entry.corridor.words.now self.entry.corridor.links self.entry.demands.steps
-            self.entry.record.words.now k }
-    {
-        rows::fixed_row(self.corridor, self.demands.steps, k, self.record.row(k))
-    }
-
-    // The first state and node with refusal 7.
-    fn scan_fixed(self) -> Answer
-        ensures { answer_of result
-            ≡ fixed_refusal self.entry.record.width self.entry.corridor.words.now self.entry.corridor.links self.entry.demands.steps
-            self.entry.record.words.now }
-    {
-        first(self.demands.steps + 1, |k| self.fixed_at(k))
-    }
-
     // The first node of step k with one of refusals 8 to 12, where no step before it has any, and the vehicles and queues of state k + 1.
     fn step_at(self, table: &[u32], k: usize) -> Found
         requires fixed_accepted { fixed_refusal self.record.width self.corridor.words.now self.corridor.links self.demands.steps
@@ -135,7 +135,7 @@ impl Proposal<'_> {
             ≡ judged self.entry.record.width (road_of self.entry.corridor.words.now self.entry.demands.words.now)
             self.entry.record.words.now }
     {
-        self.scan_fixed()?;
+        scan_fixed(self.corridor, self.record)?;
         let size = self.corridor.nodes() * 8;
         let mut room = [0u32; 520];
         let table = &mut room[..size];

@@ -7,7 +7,7 @@ ghost use Rattle.link_table.specs.Table.{table_of};
 ghost use Rattle.simulate_rows.specs.Rows.{row_cost};
 ghost use Rattle.convert_rows.specs.Rows.{fixed_fault_in, step_fault_in, RowsKept};
 
-use crate::inner::step::Step;
+use crate::inner::step::{Step, StepRows};
 use lists::inner::corridor::Corridor;
 use lists::inner::demands::Demand;
 use lists::inner::record::Row;
@@ -100,20 +100,26 @@ pub fn step_row(
     ensures adds { (result.cost ≡ row_cost row.entry.width corridor.entry.links after.entry.words.now)
         × (result.cost ≤ 558345748350) }
 {
-    let step = Step {
-        corridor,
+    let rows = StepRows {
         table,
-        k,
+        links: corridor.links,
         demand,
         row,
         after,
     };
-    if let Some(cost) = step.moves() {
+    if let Some(cost) = rows.moves() {
         return Found {
             answer: Ok(()),
             cost,
         };
     }
+    let step = Step {
+        corridor,
+        k,
+        demand,
+        row,
+        after,
+    };
     Found {
         answer: step.nodes(),
         cost: simulate_rows::inner::row_cost(corridor.links, after),

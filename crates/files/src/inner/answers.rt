@@ -1,15 +1,16 @@
 // All that the calls refuse where N and K are good: the three files in turn, then the words in them.
-ghost use Rattle.std.specs.Prelude.{◌≡◌, ◌*◌, ◌≤◌, eqb, length};
+ghost use Rattle.std.specs.Prelude.{◌≡◌, ◌&&◌, ◌*◌, ◌≤◌, eqb, length};
 ghost use Rattle.tables.specs.Answer.{Accepted, answer_of};
 ghost use Rattle.lists.specs.Words.{road_of, plan_length};
 ghost use Rattle.list_scans.specs.Refusals.{ranges};
 ghost use Rattle.payload.specs.File.{blocks_for};
+ghost use Rattle.block.specs.Calls.{told_fits};
 ghost use Rattle.file_rows.specs.Words.{corridor_in, demands_in, file_width};
 ghost use Rattle.files.specs.Files.{files_answer, read_then_check};
 ghost use Rattle.files.specs.Fits.{FilesFit, words_answer};
 
 use block::Kind;
-use block::inner::size::Size;
+use block::inner::size::{self, Size};
 use block::inner::{calls, kinds};
 use file_rows::inner::demands::FileDemands;
 use file_rows::inner::record::FileRecord;
@@ -35,11 +36,21 @@ pub struct ReadFiles<'a> {
     pub ghost fit: { FilesFit size.links size.steps files.corridor.now files.demands.now files.recorded.now },
 }
 
-// Whether `room` bytes are a plan file's.
-pub fn room_fits(size: Size, room: usize) -> bool
-    ensures { result ≡ eqb room (blocks_for (plan_length size.links size.steps) * 512) }
+// How many bytes a plan file has.
+fn plan_bytes(size: Size) -> usize
+    ensures { result ≡ blocks_for (plan_length size.links size.steps) * 512 }
 {
-    room == reading::blocks_for(kinds::length_of(Kind::Plan, size)) * 512
+    reading::blocks_for(kinds::length_of(Kind::Plan, size)) * 512
+}
+
+// Whether N and K are good and `room` bytes are a plan file's.
+pub fn room_fits(n: u32, k: u32, room: usize) -> bool
+    ensures { result ≡ (told_fits n k && eqb room (blocks_for (plan_length n k) * 512)) }
+{
+    match size::told(n, k) {
+        Ok(size) => room == plan_bytes(size),
+        Err(_) => false,
+    }
 }
 
 impl Files<'_> {

@@ -1,7 +1,7 @@
 // What bounds the words of a row: a row that no word of passes its bound has no fault, and need not be looked at node by node.
-ghost use Rattle.std.specs.Prelude.{◌≡◌, true, ℕ, ◌≤◌, ◌<◌, [], length, get_or};
+ghost use Rattle.std.specs.Prelude.{◌≡◌, true, ℕ, List, ◌≤◌, ◌<◌, [], length, get_or};
 ghost use Rattle.lists.specs.Fits.{RowFits};
-ghost use Rattle.list_scans.specs.Scans.{Demand, Plan, MostAre, most_row};
+ghost use Rattle.list_scans.specs.Scans.{NodeTest, Demand, Plan, MostAre, most_row};
 
 use lists::inner::corridor::Corridor;
 use lists::inner::rows;
@@ -21,13 +21,13 @@ pub fn row_within(row: &[u32], most: &[u32]) -> bool
 
 // What bounds the two words of a node.
 #[derive(Clone, Copy)]
-struct Most {
-    first: u32,
-    second: u32,
+pub struct Most {
+    pub first: u32,
+    pub second: u32,
 }
 
 // What bounds the demands of node i.
-fn demand_most(links: usize, i: usize) -> Most
+pub fn demand_most(links: usize, i: usize) -> Most
     ensures { MostAre Demand [] links i result.first result.second }
 {
     if i == links {
@@ -49,7 +49,7 @@ fn demand_most(links: usize, i: usize) -> Most
 }
 
 // What bounds the words of node i in a plan.
-fn plan_most(corridor: Corridor<'_>, i: usize) -> Most
+pub fn plan_most(corridor: Corridor<'_>, i: usize) -> Most
     requires { i ≤ corridor.links }
     ensures { MostAre Plan corridor.entry.words.now corridor.entry.links i result.first result.second }
 {
@@ -59,15 +59,26 @@ fn plan_most(corridor: Corridor<'_>, i: usize) -> Most
     }
 }
 
+// The row that bounds the rows which a test reads, where `bound` tells what bounds the words of a node.
+pub fn most_row<F: Fn(usize) -> Most>(links: usize, bound: F, most: &mut [u32])
+    requires small { (links ≤ 64) × RowFits 2 most.old links }
+    requires callable { (i : ℕ) → i ≤ links → F.pre bound i }
+    ensures { (test : NodeTest) (corridor : List ℕ)
+        → ((i : ℕ) (r : _) → i ≤ links → F.post bound i r → MostAre test corridor links i r.first r.second)
+        → most.new ≡ most_row test corridor links }
+{
+    for i in 0..links + 1 {
+        let bounds = bound(i);
+        rows::put_two(most, i, bounds.first, bounds.second);
+    }
+}
+
 // The row that bounds the rows of the demands.
 pub fn demand_bounds(links: usize, most: &mut [u32])
     requires { (links ≤ 64) × RowFits 2 most.old links }
     ensures { most.new ≡ most_row Demand [] links }
 {
-    for i in 0..links + 1 {
-        let bound = demand_most(links, i);
-        rows::put_two(most, i, bound.first, bound.second);
-    }
+    most_row(links, |i| demand_most(links, i), most);
 }
 
 // The row that bounds the rows of a plan.
@@ -75,8 +86,5 @@ pub fn plan_bounds(corridor: Corridor<'_>, most: &mut [u32])
     requires { RowFits 2 most.old corridor.links }
     ensures { most.new ≡ most_row Plan corridor.entry.words.now corridor.entry.links }
 {
-    for i in 0..corridor.nodes() {
-        let bound = plan_most(corridor, i);
-        rows::put_two(most, i, bound.first, bound.second);
-    }
+    most_row(corridor.links, |i| plan_most(corridor, i), most);
 }

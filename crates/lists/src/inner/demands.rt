@@ -43,8 +43,8 @@ pub fn downstream_past(list: &[u32], end: usize, k: usize) -> Units
 }
 
 impl<'a> Demands<'a> {
-    // The flow that may leave link N in step k.
-    fn downstream(self, k: usize) -> Units
+    // The flow that may leave link N in step k, or in any later one.
+    pub fn downstream(self, k: usize) -> Units
         ensures { result.0 ≡ downstream_word self.entry.words.now self.entry.links self.entry.steps k }
     {
         let rows = rows::table_length(self.steps, (self.links + 1) * 2);

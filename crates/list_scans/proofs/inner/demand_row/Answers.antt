@@ -1,6 +1,7 @@
 -- No word above its bound, no fault.
 use mathlib.Core.List.{[]}
 use mathlib.Core.Path.{sym, ap, ◌∙◌}
+use native.Mathlib.Omega.{arith}
 use lib.ListN.{length}
 use Rattle.list_scans.specs.Scans.{Demand, ReadsRow}
 use Rattle.list_scans.proofs.Clear.{clear_accepts, most_length}
@@ -13,4 +14,4 @@ pub returns-then-row_within : goal.returns-then-row_within
 unfolding ReadsRow
 returns-then-row_within c =
     clear_accepts Demand [] _ _ _ _ _ tt c.requires.small.2 c.requires.bounds
-    (record { words = c.row_within.ensures c.if-row_within.true; beyond = c.if-demand-le65536.true })
+    (record { words = c.row_within.ensures c.if-row_within.true; beyond = omega arith })

@@ -14,8 +14,8 @@ returns-in_err-answer c =
     rw (p.1, p.2)
     (stepping_stop _ _ _ _ _ _ _ _ _ _ _ c.loop-i.invariant (omega (arith, c.nodes-i-end.ensures)) c.in_err-answer.ensures tt)
 
-pub outflow-gained-requires-clause-flows_bound : goal.outflow-gained-requires-clause-flows_bound
-outflow-gained-requires-clause-flows_bound c =
+pub outflow_at-gained-requires-clause-flows_bound : goal.outflow_at-gained-requires-clause-flows_bound
+outflow_at-gained-requires-clause-flows_bound c =
     let self = c.args.self.now in
     (passes_on _ _ _ _ _ self.after.words.now _ _ self.k _ self.kept (omega (arith, c.nodes-i-end.ensures)) c.answer.ensures
     (ap answer_of c.in_ok-answer.was)).1
@@ -23,4 +23,4 @@ outflow-gained-requires-clause-flows_bound c =
 pub loop-i-preserved : goal.loop-i-preserved
 loop-i-preserved c =
     stepping_more _ _ _ _ _ _ _ _ _ _ _ _ c.loop-i.invariant (omega (arith, c.nodes-i-end.ensures)) c.answer.ensures
-    (ap answer_of c.in_ok-answer.was) c.outflow-gained.ensures.0 c.outflow-gained.ensures.1
+    (ap answer_of c.in_ok-answer.was) c.outflow_at-gained.ensures.0 c.outflow_at-gained.ensures.1
